@@ -1,0 +1,38 @@
+-- The refusal numbers: document 01, "Refusal numbers".
+-- Assumes nothing.
+use mathlib.Core.Bool.{Bool, true, false}
+use Prim.Native.Nat.{ℕ}
+use Rattle.refusal.specs.declared.Refusal.{Refusal}
+use Rattle.refusal.specs.declared.Refusal.the-variants.{OutOfRange, Malformed, FormatError, MessageTooLong, OutputTooShort, RouteListMalformed, NoClock, NoInterrogator, WindowClosed, OutsideWindow, OutOfSequence, FirstNotZero, PacketTooLong, NotInOrder, AllFailed, NeverSent, RunBroken}
+use Rattle.refusal.specs.declared.Verdict.{Verdict}
+use Rattle.refusal.specs.declared.Verdict.the-variants.{Done, Refused}
+
+abbrev pub numberOf : Refusal → ℕ
+numberOf OutOfRange = 1
+numberOf Malformed = 2
+numberOf FormatError = 3
+numberOf MessageTooLong = 4
+numberOf OutputTooShort = 5
+numberOf RouteListMalformed = 6
+numberOf NoClock = 7
+numberOf NoInterrogator = 8
+numberOf WindowClosed = 9
+numberOf OutsideWindow = 10
+numberOf OutOfSequence = 11
+numberOf FirstNotZero = 12
+numberOf PacketTooLong = 13
+numberOf NotInOrder = 14
+numberOf AllFailed = 15
+numberOf NeverSent = 16
+numberOf RunBroken = 17
+
+-- 0 is done
+abbrev pub verdictNumber : Verdict → ℕ
+verdictNumber Done = 0
+verdictNumber (Refused why) = numberOf why
+
+-- ---- how definitions tell a call's checks: a list of what must hold, each with the refusal given where it doesn't, in their order
+
+abbrev pub check : Bool → Refusal → Verdict → Verdict
+check true why rest = rest
+check false why rest = Refused why

@@ -1,0 +1,87 @@
+// Why a call refuses, and whether it did. The numbers are those of document 01's table; specs/Numbers.antt has them.
+ghost use mathlib.Core.Path.{_≡_};
+ghost use Rattle.refusal.specs.Numbers.{numberOf, verdictNumber};
+
+// A refusal. The comment of each case is its row of the table.
+pub enum Refusal {
+    // 1: an argument exceeds its field (SN over 63, PS or PR over 15, CH, AM or II over 15, TC over 3, downlink segments not 1 to 16)
+    OutOfRange,
+    // 2: a frame is empty or no whole number of segments; lengths don't sum to the data; no frames; the last frame has M = 1; a script line
+    // is malformed
+    Malformed,
+    // 3: a fixed field, fill, LV or padding byte is wrong; M = 0 before the last frame
+    FormatError,
+    // 4: message over 4,096 bytes
+    MessageTooLong,
+    // 5: lent output shorter than needed
+    OutputTooShort,
+    // 6: route list over 255 bytes, or its last entry is cut
+    RouteListMalformed,
+    // 7: no clock runs for that number
+    NoClock,
+    // 8: ground address has no interrogator
+    NoInterrogator,
+    // 9: send window closed
+    WindowClosed,
+    // 10: received PS outside the window
+    OutsideWindow,
+    // 11: received PS out of sequence
+    OutOfSequence,
+    // 12: received PS is the first one and not 0
+    FirstNotZero,
+    // 13: packet over the form's largest size
+    PacketTooLong,
+    // 14: the state is not in good order
+    NotInOrder,
+    // 15: every interrogator of that address has failed
+    AllFailed,
+    // 16: PR acknowledges what was never sent
+    NeverSent,
+    // 17: SN, PS or CH breaks the run while joining
+    RunBroken,
+}
+
+// Whether a call did what was asked: done, which is 0 in the table, or refused.
+pub enum Verdict {
+    Done,
+    Refused(Refusal),
+}
+
+impl Refusal {
+    // The number of the table, for logs and for callers that speak in numbers.
+    pub fn number(self) -> u8
+        ensures { λ r. ⌜ r ≡ numberOf self ⌝ }
+    {
+        match self {
+            Refusal::OutOfRange => 1,
+            Refusal::Malformed => 2,
+            Refusal::FormatError => 3,
+            Refusal::MessageTooLong => 4,
+            Refusal::OutputTooShort => 5,
+            Refusal::RouteListMalformed => 6,
+            Refusal::NoClock => 7,
+            Refusal::NoInterrogator => 8,
+            Refusal::WindowClosed => 9,
+            Refusal::OutsideWindow => 10,
+            Refusal::OutOfSequence => 11,
+            Refusal::FirstNotZero => 12,
+            Refusal::PacketTooLong => 13,
+            Refusal::NotInOrder => 14,
+            Refusal::AllFailed => 15,
+            Refusal::NeverSent => 16,
+            Refusal::RunBroken => 17,
+        }
+    }
+}
+
+impl Verdict {
+    // 0 for done, else the refusal's number.
+    pub fn number(self) -> u8
+        ensures { λ r. ⌜ r ≡ verdictNumber self ⌝ }
+    {
+        match self {
+            Verdict::Done => 0,
+            Verdict::Refused(why) => why.number(),
+        }
+    }
+}

@@ -1,0 +1,2 @@
+-- The laws of counting modulo m.
+pub mod Modular

@@ -1,0 +1,49 @@
+-- The law of distance, proved once over the modulus.
+-- Assumes nothing.
+use mathlib.Core.Path.{_≡_, sym, ap, _∙_}
+use Prim.Native.Nat.{ℕ, _+_, _-_, _*_, _/_, _%_, _<_}
+use native.Mathlib.Nat.{mod-lt, mod-eq-of-lt, mod-mod, mod-add-mod, add-mod-mod, add-mod-right, div-add-mod', mul-add-mod-self-right, mod-mod-of-dvd, dvd-of-mod-eq-zero}
+use native.Mathlib.Omega.{arith}
+use Rattle.sequence.specs.Modular.{distance, DistanceLaw}
+
+module _ (m : ℕ) (pos : 0 < m) where
+  -- a, and what it lacks to a multiple of m, come to a multiple of m
+  round : (a d : ℕ) → (a + d + (m - a % m)) % m ≡ d % m
+  round a d =
+      let sum : a + d + (m - a % m) ≡ a / m * m + (d + m) = omega (arith, div-add-mod' a m, mod-lt a pos) in
+      ap (λ (x : ℕ). x % m) sum ∙ mul-add-mod-self-right (a / m) m (d + m) ∙ add-mod-right d m
+
+  pub distance-lt : (a b : ℕ) → distance m a b < m
+  unfolding distance
+  distance-lt a b = mod-lt _ pos
+
+  pub distance-reaches : (a b : ℕ) → (a + distance m a b) % m ≡ b % m
+  unfolding distance
+  distance-reaches a b =
+      add-mod-mod a (b + (m - a % m)) m
+      ∙ ap (λ (x : ℕ). x % m) (omega arith)
+      ∙ round a b
+
+  pub distance-only : (a b d : ℕ) → d < m → (a + d) % m ≡ b % m → d ≡ distance m a b
+  unfolding distance
+  distance-only a b d h e =
+      sym (mod-eq-of-lt h) ∙ sym (round a d) ∙ sym (mod-add-mod (a + d) m (m - a % m))
+      ∙ ap (λ (x : ℕ). (x + (m - a % m)) % m) e ∙ mod-add-mod b m (m - a % m)
+
+  -- from a or from its remainder, it is as far
+  pub distance-remainder : (a b : ℕ) → distance m (a % m) b ≡ distance m a b
+  unfolding distance
+  distance-remainder a b = ap (λ (x : ℕ). (b + (m - x)) % m) (mod-mod a m)
+
+  -- the distance of two remainders, where the numbers themselves are less than m apart
+  pub distance-apart : (a d : ℕ) → d < m → distance m (a % m) ((a + d) % m) ≡ d
+  distance-apart a d h =
+      sym (distance-only (a % m) ((a + d) % m) d h (mod-add-mod a m d ∙ sym (mod-eq-of-lt (mod-lt (a + d) pos))))
+
+  pub distance-law : 256 % m ≡ 0 → DistanceLaw m
+  distance-law div = record {
+    meaning = λ a b. record { below = distance-lt a b; reaches = distance-reaches a b; only = distance-only a b };
+    wrapping = λ a b w e.
+        distance-only a b (w % m) (mod-lt w pos)
+        (add-mod-mod a w m ∙ ap (λ (x : ℕ). x % m) (omega arith) ∙ sym (mod-mod-of-dvd m (w + a) (dvd-of-mod-eq-zero m div)) ∙ ap (λ (x : ℕ). x % m) e);
+  }

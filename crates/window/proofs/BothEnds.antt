@@ -1,0 +1,237 @@
+-- The two ends together. In true numbers: a packets are acknowledged at the sending end, t taken at the receiving end and g granted, with
+-- a ≤ t ≤ g ≤ a + 15. The packets on the way are those from t up to g; the PR on the way rise from a to t. Each event keeps that, and a
+-- delivery is never refused.
+-- Assumes nothing.
+use mathlib.Core.Path.{_≡_, refl, sym, ap, ap₂, _∙_, subst}
+use mathlib.Core.Bool.{true}
+use mathlib.Core.List.{List, [], _∷_, _++_, map}
+use Prim.Native.Nat.{ℕ, zero, suc, _+_, _%_, _≤_, zero-le}
+use native.Mathlib.Decide.{decLe}
+use native.Mathlib.Omega.{arith}
+use lib.ListN.{length, replicate}
+use Rattle.window.specs.declared.sender.Sender.{Sender}
+use Rattle.window.specs.declared.sender.Sent.{Sent}
+use Rattle.window.specs.declared.sender.Acknowledged.{Acknowledged}
+use Rattle.window.specs.declared.receiver.Received.{Received}
+use Rattle.window.specs.declared.receiver.Told.{Told}
+use Rattle.refusal.specs.declared.Verdict.the-variants.{Done}
+use Rattle.refusal.specs.Numbers.{verdictNumber}
+use Rattle.sequence.specs.declared.PacketNumber.{PacketNumber}
+use Rattle.sequence.specs.Numbers.{packet}
+use Rattle.window.specs.Sending.{freshSender, sendOf, acknowledgeOf}
+use Rattle.window.specs.Receiving.{freshReceiver, receiverGood, receiptNumber}
+use Rattle.window.specs.History.{noteGrant}
+use Rattle.window.specs.BothEnds.{Flow, Event, grant, deliver, tell, deliverPr, noteTelling, delivered, deliveredPr, step, run, NoneRefused}
+use Rattle.window.proofs.Ends.{senderAt, send-open, send-closed, acknowledge-taken, taken-good, fresh-good, tell-told, tell-good, receive-taken}
+
+-- the PS of the n packets from s on
+abbrev numbersFrom : ℕ → ℕ → List ℕ
+numbersFrom s zero = []
+numbersFrom s (suc n) = s % 16 ∷ numbersFrom (suc s) n
+
+from-more : (s n : ℕ) → numbersFrom s n ++ ((s + n) % 16 ∷ []) ≡ numbersFrom s (suc n)
+from-more s zero = ap (λ (x : ℕ). x % 16 ∷ []) (omega arith)
+from-more s (suc n) = ap (λ (l : List ℕ). s % 16 ∷ l) (ap (λ (x : ℕ). numbersFrom (suc s) n ++ (x % 16 ∷ [])) (omega arith) ∙ from-more (suc s) n)
+
+-- true numbers that do not fall, from low up to high
+abbrev Rising : ℕ → ℕ → List ℕ → Type 0
+Rising low high [] = low ≤ high
+Rising low high (t ∷ ts) = (low ≤ t) × Rising t high ts
+
+rising-more : (low high : ℕ) (ts : List ℕ) → Rising low high ts → Rising low high (ts ++ (high ∷ []))
+rising-more low high [] r = (r, omega arith)
+rising-more low high (t ∷ ts) r = (r .0, rising-more t high ts (r .1))
+
+rising-wider : (low high higher : ℕ) (ts : List ℕ) → high ≤ higher → Rising low high ts → Rising low higher ts
+rising-wider low high higher [] h r = omega arith
+rising-wider low high higher (t ∷ ts) h r = (r .0, rising-wider t high higher ts h (r .1))
+
+rising-ends : (low high : ℕ) (ts : List ℕ) → Rising low high ts → low ≤ high
+rising-ends low high [] r = r
+rising-ends low high (t ∷ ts) r = omega (arith, r .0, rising-ends t high ts (r .1))
+
+abbrev wrapped : List ℕ → List ℕ
+wrapped = map (λ (t : ℕ). t % 16)
+
+map-more : (ts : List ℕ) (t : ℕ) → wrapped ts ++ (t % 16 ∷ []) ≡ wrapped (ts ++ (t ∷ []))
+map-more [] t = refl
+map-more (x ∷ ts) t = ap (λ (l : List ℕ). x % 16 ∷ l) (map-more ts t)
+
+-- answers that are all 0
+abbrev AllDone : List ℕ → Type 0
+AllDone l = l ≡ replicate (length l) 0
+
+done-more : (l : List ℕ) → AllDone l → AllDone (l ++ (0 ∷ []))
+done-more [] e = refl
+done-more (x ∷ l) e =
+    let p : x ≡ 0 = cc in
+    let q : l ≡ replicate (length l) 0 = cc in
+    ap₂ _∷_ p (done-more l q)
+
+record Kept (f : Flow) : Type 0 where
+  acknowledged : ℕ
+  taken : ℕ
+  on-the-way : ℕ
+  told : List ℕ
+  sender-at : f .sender ≡ senderAt acknowledged (taken + on-the-way)
+  window : taken + on-the-way ≤ acknowledged + 15
+  receiver-at : f .receiver .expected ≡ packet (taken % 16)
+  receiver-good : receiverGood (f .receiver) ≡ true
+  packets-are : f .packets ≡ numbersFrom taken on-the-way
+  tellings-are : f .tellings ≡ wrapped told
+  rising : Rising acknowledged taken told
+  all-done : AllDone (f .numbers)
+
+-- ---- each event keeps it
+
+-- the flow by what the sending end answered
+abbrev grantedBy : Flow → Sent → Flow
+grantedBy f r = record {
+  sender = r .end;
+  receiver = f .receiver;
+  packets = noteGrant (r .answer) (f .packets);
+  tellings = f .tellings;
+  numbers = f .numbers;
+}
+
+grant-keeps : (f : Flow) → Kept f → Kept (step f grant)
+grant-keeps f k = elim (decLe (k .taken + k .on-the-way) (k .acknowledged + 14)) [
+  | yes h ↦
+      subst (λ (r : Sent). Kept (grantedBy f r))
+      (sym (ap sendOf (k .sender-at) ∙ send-open (k .acknowledged) (k .taken + k .on-the-way) ahead h))
+      (record {
+        acknowledged = k .acknowledged;
+        taken = k .taken;
+        on-the-way = suc (k .on-the-way);
+        told = k .told;
+        sender-at = ap (senderAt (k .acknowledged)) (omega arith);
+        window = omega arith;
+        receiver-at = k .receiver-at;
+        receiver-good = k .receiver-good;
+        packets-are =
+            ap (λ (l : List ℕ). l ++ ((k .taken + k .on-the-way) % 16 ∷ [])) (k .packets-are) ∙ from-more (k .taken) (k .on-the-way);
+        tellings-are = k .tellings-are;
+        rising = k .rising;
+        all-done = k .all-done;
+      })
+  | no h ↦
+      subst (λ (r : Sent). Kept (grantedBy f r))
+      (sym (ap sendOf (k .sender-at) ∙ send-closed (k .acknowledged) (k .taken + k .on-the-way) (omega (arith, k .window))))
+      (record {
+        acknowledged = k .acknowledged;
+        taken = k .taken;
+        on-the-way = k .on-the-way;
+        told = k .told;
+        sender-at = refl;
+        window = k .window;
+        receiver-at = k .receiver-at;
+        receiver-good = k .receiver-good;
+        packets-are = k .packets-are;
+        tellings-are = k .tellings-are;
+        rising = k .rising;
+        all-done = k .all-done;
+      })
+]
+  where
+    ahead : k .acknowledged ≤ k .taken + k .on-the-way
+    ahead = omega (arith, rising-ends (k .acknowledged) (k .taken) (k .told) (k .rising))
+
+deliver-keeps : (f : Flow) → Kept f → Kept (step f deliver)
+deliver-keeps f k = subst (λ (l : List ℕ). Kept (delivered f l)) (sym (k .packets-are)) (go (k .on-the-way) refl)
+  where
+    go : (n : ℕ) → k .on-the-way ≡ n → Kept (delivered f (numbersFrom (k .taken) n))
+    go zero e = k
+    go (suc n) e =
+        let r = receive-taken (f .receiver) (k .taken) (k .receiver-good) (k .receiver-at) in
+        record {
+          acknowledged = k .acknowledged;
+          taken = suc (k .taken);
+          on-the-way = n;
+          told = k .told;
+          sender-at = k .sender-at ∙ ap (senderAt (k .acknowledged)) (omega arith);
+          window = omega (arith, k .window);
+          receiver-at = ap (λ (a : Received). a .end .expected) r;
+          receiver-good = ap (λ (a : Received). receiverGood (a .end)) r ∙ taken-good (suc (k .taken)) (f .receiver .untold + 1);
+          packets-are = refl;
+          tellings-are = k .tellings-are;
+          rising = rising-wider (k .acknowledged) (k .taken) (suc (k .taken)) (k .told) (omega arith) (k .rising);
+          all-done =
+              subst (λ (x : ℕ). AllDone (f .numbers ++ (x ∷ []))) (sym (ap (λ (a : Received). receiptNumber (a .answer)) r)) (done-more (f .numbers) (k .all-done));
+        }
+
+tell-keeps : (f : Flow) → Kept f → Kept (step f tell)
+tell-keeps f k =
+    let r = tell-told (f .receiver) (k .receiver-good) in
+    record {
+      acknowledged = k .acknowledged;
+      taken = k .taken;
+      on-the-way = k .on-the-way;
+      told = k .told ++ (k .taken ∷ []);
+      sender-at = k .sender-at;
+      window = k .window;
+      receiver-at = ap (λ (a : Told). a .end .expected) r ∙ k .receiver-at;
+      receiver-good = tell-good (f .receiver) (k .receiver-good);
+      packets-are = k .packets-are;
+      tellings-are =
+          ap (λ (a : Told). noteTelling (a .answer) (f .tellings)) r
+          ∙ ap₂ (λ (l : List ℕ) (p : PacketNumber). l ++ (p .0 ∷ [])) (k .tellings-are) (k .receiver-at)
+          ∙ map-more (k .told) (k .taken);
+      rising = rising-more (k .acknowledged) (k .taken) (k .told) (k .rising);
+      all-done = k .all-done;
+    }
+
+deliverPr-keeps : (f : Flow) → Kept f → Kept (step f deliverPr)
+deliverPr-keeps f k = subst (λ (l : List ℕ). Kept (deliveredPr f l)) (sym (k .tellings-are)) (go (k .told) (k .rising))
+  where
+    go : (ts : List ℕ) → Rising (k .acknowledged) (k .taken) ts → Kept (deliveredPr f (wrapped ts))
+    go [] h = k
+    go (t ∷ ts) h =
+        let far : t ≤ k .taken = rising-ends t (k .taken) ts (h .1) in
+        let near : k .acknowledged ≤ t = h .0 in
+        let r : acknowledgeOf (f .sender) (t % 16) ≡ record { verdict = Done; end = senderAt t (k .taken + k .on-the-way) } =
+        ap (λ (s : Sender). acknowledgeOf s (t % 16)) (k .sender-at)
+        ∙ acknowledge-taken (k .acknowledged) t (k .taken + k .on-the-way) near (omega arith) (k .window) in
+        record {
+          acknowledged = t;
+          taken = k .taken;
+          on-the-way = k .on-the-way;
+          told = ts;
+          sender-at = ap (λ (a : Acknowledged). a .end) r;
+          window = omega (arith, k .window);
+          receiver-at = k .receiver-at;
+          receiver-good = k .receiver-good;
+          packets-are = k .packets-are;
+          tellings-are = refl;
+          rising = h .1;
+          all-done =
+              subst (λ (x : ℕ). AllDone (f .numbers ++ (x ∷ []))) (sym (ap (λ (a : Acknowledged). verdictNumber (a .verdict)) r)) (done-more (f .numbers) (k .all-done));
+        }
+
+step-keeps : (f : Flow) (e : Event) → Kept f → Kept (step f e)
+step-keeps f grant k = grant-keeps f k
+step-keeps f deliver k = deliver-keeps f k
+step-keeps f tell k = tell-keeps f k
+step-keeps f deliverPr k = deliverPr-keeps f k
+
+run-keeps : (f : Flow) (events : List Event) → Kept f → Kept (run f events)
+unfolding run
+run-keeps f [] k = k
+run-keeps f (e ∷ es) k = run-keeps (step f e) es (step-keeps f e k)
+
+pub none-refused : (events : List Event) → NoneRefused events
+none-refused events =
+    run-keeps (record { sender = freshSender; receiver = freshReceiver; packets = []; tellings = []; numbers = [] }) events (record {
+      acknowledged = 0;
+      taken = 0;
+      on-the-way = 0;
+      told = [];
+      sender-at = refl;
+      window = zero-le;
+      receiver-at = refl;
+      receiver-good = fresh-good;
+      packets-are = refl;
+      tellings-are = refl;
+      rising = zero-le;
+      all-done = refl;
+    })
+    .all-done

@@ -1,0 +1,4 @@
+-- The laws of words, digit by digit, and of the sets that they hold.
+pub mod Digits
+pub mod Sets
+pub mod Words

@@ -1,0 +1,11 @@
+-- `wordset::set64::difference` meets its contract, by the law `and-difference` at 64 places.
+-- Assumes nothing.
+use Rattle.wordset.proofs.Words.{and-difference}
+use Rattle.wordset.proofs.set64.difference.Statement.{statement}
+use Rattle.wordset.proofs.set64.difference.Tie as tie
+
+returns : tie.Need-returns
+returns c = and-difference 64 _ _ (c .fits .a .fits) (c .fits .b .fits)
+
+pub difference-spec : {M : Type 1} → statement M
+difference-spec = tie.close (tie.spec returns)

@@ -1,0 +1,64 @@
+// Sets of the numbers 0 to 15, as a u16.
+ghost use mathlib.Core.Path.{_≡_};
+ghost use Rattle.wordset.specs.Sets.{member, with, without, union, difference, count, lowest};
+
+// Whether the number is in the set.
+pub fn member(set: u16, number: u8) -> bool
+    ensures { λ r. ⌜ r ≡ member set number ⌝ }
+{
+    if number < 16 {
+        (set >> (number as u16)) & 1 == 1
+    } else {
+        false
+    }
+}
+
+// The set with the number added.
+pub fn with(set: u16, number: u8) -> u16
+    ensures { λ r. ⌜ r ≡ with 16 set number ⌝ }
+{
+    if number < 16 {
+        set | (1u16 << (number as u16))
+    } else {
+        set
+    }
+}
+
+// The set with the number taken out.
+pub fn without(set: u16, number: u8) -> u16
+    ensures { λ r. ⌜ r ≡ without 16 set number ⌝ }
+{
+    if number < 16 {
+        set & !(1u16 << (number as u16))
+    } else {
+        set
+    }
+}
+
+// What is in either set.
+pub fn union(a: u16, b: u16) -> u16
+    ensures { λ r. ⌜ r ≡ union 16 a b ⌝ }
+{
+    a | b
+}
+
+// What is in a and not in b.
+pub fn difference(a: u16, b: u16) -> u16
+    ensures { λ r. ⌜ r ≡ difference 16 a b ⌝ }
+{
+    a & !b
+}
+
+// How many numbers are in the set.
+pub fn count(set: u16) -> u8
+    ensures { λ r. ⌜ r ≡ count 16 set ⌝ }
+{
+    u16::count_ones(set) as u8
+}
+
+// The lowest number in the set, 16 where it is empty.
+pub fn lowest(set: u16) -> u8
+    ensures { λ r. ⌜ r ≡ lowest 16 set ⌝ }
+{
+    u16::trailing_zeros(set) as u8
+}
