@@ -40,6 +40,14 @@ module _ (m : ℕ) (pos : 0 < m) where
   distance-apart a d h =
       sym (distance-only (a % m) ((a + d) % m) d h (mod-add-mod a m d ∙ sym (mod-eq-of-lt (mod-lt (a + d) pos))))
 
+  -- what stands at a distance is that far
+  pub distance-at : (a d : ℕ) → d < m → distance m a ((a + d) % m) ≡ d
+  distance-at a d h = sym (distance-only a ((a + d) % m) d h (sym (mod-mod (a + d) m)))
+
+  -- the number at a number's distance is that number
+  pub at-distance : (a b : ℕ) → b < m → (a + distance m a b) % m ≡ b
+  at-distance a b h = distance-reaches a b ∙ mod-eq-of-lt h
+
   pub distance-law : 256 % m ≡ 0 → DistanceLaw m
   distance-law div = record {
     meaning = λ a b. record { below = distance-lt a b; reaches = distance-reaches a b; only = distance-only a b };

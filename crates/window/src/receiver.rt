@@ -1,7 +1,7 @@
 // The receiving end: which PS is taken, and when PR is due.
 ghost use mathlib.Core.Path.{_≡_};
 ghost use Prim.Native.Nat.{_+_, min};
-ghost use Rattle.window.specs.Receiving.{freshReceiver, receiverGood, otherPs, receiveVerdict, receiveOf, tellOf};
+ghost use Rattle.window.specs.Receiving.{receiptNumber, tellingNumber, freshReceiver, receiverGood, otherPs, receiveVerdict, receiveOf, tellOf};
 use refusal::Refusal;
 use refusal::Verdict;
 use sequence::PacketNumber;
@@ -35,6 +35,30 @@ pub enum Telling {
 pub struct Told {
     pub answer: Telling,
     pub end: Receiver,
+}
+
+impl Receipt {
+    // The number of document 01's table: 0 where the PS is taken.
+    pub fn number(self) -> u8
+        ensures { λ r. ⌜ r ≡ receiptNumber self ⌝ }
+    {
+        match self {
+            Receipt::Taken { due: _due } => 0,
+            Receipt::Refused(why) => why.number(),
+        }
+    }
+}
+
+impl Telling {
+    // The number of document 01's table: 0 where there is a PR.
+    pub fn number(self) -> u8
+        ensures { λ r. ⌜ r ≡ tellingNumber self ⌝ }
+    {
+        match self {
+            Telling::Tell(_pr) => 0,
+            Telling::Refused(why) => why.number(),
+        }
+    }
 }
 
 // One packet more that has not been told, and never over 8.

@@ -1,6 +1,6 @@
 // The sending end: which PS may be sent, and what a PR acknowledges.
 ghost use mathlib.Core.Path.{_≡_};
-ghost use Rattle.window.specs.Sending.{freshSender, senderGood, sendVerdict, sendOf, acknowledgeVerdict, acknowledgeOf};
+ghost use Rattle.window.specs.Sending.{grantNumber, freshSender, senderGood, sendVerdict, sendOf, acknowledgeVerdict, acknowledgeOf};
 use refusal::Refusal;
 use refusal::Verdict;
 use sequence::PacketNumber;
@@ -27,6 +27,18 @@ pub struct Sent {
 pub struct Acknowledged {
     pub verdict: Verdict,
     pub end: Sender,
+}
+
+impl Grant {
+    // The number of document 01's table: 0 where a PS is granted.
+    pub fn number(self) -> u8
+        ensures { λ r. ⌜ r ≡ grantNumber self ⌝ }
+    {
+        match self {
+            Grant::Granted(_ps) => 0,
+            Grant::Refused(why) => why.number(),
+        }
+    }
 }
 
 impl Sender {

@@ -6,7 +6,7 @@ use native.Mathlib.Nat.{mod-lt, mul-comm, pow-suc, div-div-eq-div-mul, not-suc-l
 use native.Mathlib.Omega.{arith}
 use lib.Dec.{lit<}
 use lib.Arith.{lt-one, digits-mod}
-use lib.Pow.{pow-mono, shl-shr, shr-shr}
+use lib.Pow.{pow-mono, shl-shr, shr-shr, field, mod-mod-pow}
 use lib.Bits.{bitAnd, bitOr, and-step, or-step, and-shr, or-shr, shifted-half, shifted-even}
 use Rattle.wordset.specs.Sets.{bit}
 
@@ -75,6 +75,13 @@ bit-shl-low w (suc s) (suc j) h =
 
 pub bit-shl-high : (w s j : ℕ) → bit (w * 2 ^ s) (s + j) ≡ bit w j
 bit-shl-high w s j = sym (bit-shr (w * 2 ^ s) s j) ∙ ap (λ (x : ℕ). bit x j) (shl-shr w s)
+
+-- what is cut off from place k up does not touch the places below
+pub bit-mod : (w k j : ℕ) → j < k → bit (w % 2 ^ k) j ≡ bit w j
+unfolding bit
+bit-mod w k j h =
+    let e : k ≡ (k - j - 1) + 1 + j = omega arith in
+    ap (λ (x : ℕ). w % 2 ^ x / 2 ^ j % 2) e ∙ ap (λ (x : ℕ). x % 2) (field w ((k - j - 1) + 1) j) ∙ mod-mod-pow (w / 2 ^ j) (k - j - 1) 1
 
 -- two words of k places are equal when their digits are
 pub same-bits : (k a b : ℕ) → a < 2 ^ k → b < 2 ^ k → ((j : ℕ) → j < k → bit a j ≡ bit b j) → a ≡ b

@@ -2,3 +2,6 @@
 pub mod Digits
 pub mod Sets
 pub mod Words
+pub mod Rings
+pub mod Masks
+pub mod Counts

@@ -1,7 +1,7 @@
 -- The laws of sets in words, over the width.
 -- Assumes nothing.
 use mathlib.Core.Path.{_≡_, refl, sym, ap, ap₂, _∙_, fun-ext}
-use mathlib.Core.Bool.{Bool, true, false, not, cond, _&&_, _||_}
+use mathlib.Core.Bool.{Bool, true, false, not, cond, _&&_, _||_, true≢false}
 use Prim.Native.Nat.{ℕ, zero, suc, _+_, _*_, _/_, _%_, _^_, _≤_, _<_, zero-le, suc-le-suc}
 use native.Mathlib.Nat.{not-suc-le-zero, pow-suc}
 use native.Mathlib.Decide.{decLt}
@@ -9,7 +9,7 @@ use native.Mathlib.Omega.{arith}
 use lib.Dec.{eqb, lit<}
 use lib.Count.{ones, ones-step, trailingZeros, trailing-of-zero, under}
 use lib.Pow.{pow-pos}
-use Rattle.wordset.specs.Sets.{bit, member, digit, setOf, howMany, first}
+use Rattle.wordset.specs.Sets.{bit, member, digit, setOf, howMany, first, every}
 use Rattle.wordset.specs.Laws.{SetLaws}
 use Rattle.wordset.proofs.Digits.{bit-lt, bit-zero, bit-half, bit-past, half-lt, same-bits}
 
@@ -70,6 +70,13 @@ member-setOf (suc k) p (suc j) h =
     half : (d r : ℕ) → d < 2 → (d + 2 * r) / 2 ≡ r
     half d r h = omega arith
 
+-- only the numbers below k matter
+pub setOf-same : (k : ℕ) (p q : ℕ → Bool) → ((j : ℕ) → j < k → p j ≡ q j) → setOf k p ≡ setOf k q
+unfolding setOf
+setOf-same zero p q e = refl
+setOf-same (suc k) p q e =
+    ap₂ (λ (b : Bool) (n : ℕ). digit b + 2 * n) (e 0 (omega arith)) (setOf-same k (λ j. p (suc j)) (λ j. q (suc j)) (λ j l. e (suc j) (omega arith)))
+
 pub same-members : (k a b : ℕ) → a < 2 ^ k → b < 2 ^ k → ((j : ℕ) → j < k → member a j ≡ member b j) → a ≡ b
 same-members k a b ha hb e = same-bits k a b ha hb (λ j l. bit-member a j ∙ ap digit (e j l) ∙ sym (bit-member b j))
 
@@ -112,10 +119,25 @@ first-least (suc k) p j h = go (p 0) refl j (first-least k (λ i. p (suc i))) h
     go false e zero r h = e
     go false e (suc i) r h = r i (omega arith)
 
+-- it is no further than any number that p picks
+pub first-most : (k : ℕ) (p : ℕ → Bool) (j : ℕ) → p j ≡ true → first k p ≤ j
+first-most k p j e = go (decLt j (first k p))
+  where
+    go : Dec (j < first k p) → first k p ≤ j
+    go (yes h) = absurd (true≢false (sym e ∙ first-least k p j h))
+    go (no h) = omega arith
+
+-- only the numbers below k matter
+pub first-same : (k : ℕ) (p q : ℕ → Bool) → ((j : ℕ) → j < k → p j ≡ q j) → first k p ≡ first k q
+unfolding first
+first-same zero p q e = refl
+first-same (suc k) p q e =
+    ap₂ (λ (b : Bool) (n : ℕ). cond b 0 (suc n)) (e 0 (omega arith)) (first-same k (λ j. p (suc j)) (λ j. q (suc j)) (λ j l. e (suc j) (omega arith)))
+
 -- ---- the machine's counts
 
 -- digit of the lowest place
-low-digit : (w : ℕ) → w % 2 ≡ digit (member w 0)
+pub low-digit : (w : ℕ) → w % 2 ≡ digit (member w 0)
 low-digit w = sym (bit-zero w) ∙ bit-member w 0
 
 count-ones : (k w : ℕ) → w < 2 ^ k → ones w ≡ howMany k (member w)
@@ -163,3 +185,20 @@ set-laws k = record {
   lowest-is = λ w h. record { in-set = first-picked k (member w) h; least = first-least k (member w) };
   lowest-below = lowest-below k;
 }
+
+-- ---- a test of every number below k
+
+pub every-at : (k : ℕ) (p : ℕ → Bool) → every k p ≡ true → (j : ℕ) → j < k → p j ≡ true
+unfolding every
+every-at zero p e j h = absurd (not-suc-le-zero h)
+every-at (suc k) p e j h = go (p k) refl e (decLt j k) (every-at k p)
+  where
+    go : (b : Bool) → p k ≡ b → (b && every k p) ≡ true → Dec (j < k) → (every k p ≡ true → (i : ℕ) → i < k → p i ≡ true) → p j ≡ true
+    go true q e (yes l) r = r e j l
+    go true q e (no l) r = ap p (omega arith) ∙ q
+    go false q e d r = let z : _≡_ {A = ℕ} 0 1 = cc in absurd (omega arith)
+
+pub every-all : (k : ℕ) (p : ℕ → Bool) → ((j : ℕ) → j < k → p j ≡ true) → every k p ≡ true
+unfolding every
+every-all zero p e = refl
+every-all (suc k) p e = ap (λ (b : Bool). b && every k p) (e k (omega arith)) ∙ every-all k p (λ j l. e j (omega arith))

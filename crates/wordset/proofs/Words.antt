@@ -28,11 +28,11 @@ less-digit true false = refl
 less-digit false true = refl
 less-digit false false = refl
 
-member-or : (a b j : ℕ) → member (bitOr a b) j ≡ (member a j || member b j)
+pub member-or : (a b j : ℕ) → member (bitOr a b) j ≡ (member a j || member b j)
 member-or a b j =
     member-bit (bitOr a b) j _ (bit-or a b j ∙ ap₂ max (bit-member a j) (bit-member b j)) ∙ or-digit (member a j) (member b j)
 
-member-less : (k a b j : ℕ) → b < 2 ^ k → j < k → member (bitAnd a (2 ^ k - 1 - b)) j ≡ (member a j && not (member b j))
+pub member-less : (k a b j : ℕ) → b < 2 ^ k → j < k → member (bitAnd a (2 ^ k - 1 - b)) j ≡ (member a j && not (member b j))
 member-less k a b j h l =
     member-bit (bitAnd a (2 ^ k - 1 - b)) j _
     (bit-and a (2 ^ k - 1 - b) j ∙ ap₂ min (bit-member a j) (bit-not k b j h l ∙ ap (λ (d : ℕ). 1 - d) (bit-member b j)))
@@ -66,7 +66,7 @@ shifted-member w n = ap (λ (x : ℕ). eqb x 1) (and-mask (w / 2 ^ n) 1)
 
 module _ (k : ℕ) where
   -- a word of k places is a set that p tells where each place agrees with p
-  is-set : (w : ℕ) (p : ℕ → Bool) → w < 2 ^ k → ((j : ℕ) → j < k → member w j ≡ p j) → w ≡ setOf k p
+  pub is-set : (w : ℕ) (p : ℕ → Bool) → w < 2 ^ k → ((j : ℕ) → j < k → member w j ≡ p j) → w ≡ setOf k p
   is-set w p h e = same-members k w (setOf k p) h (setOf-lt k p) (λ j l. e j l ∙ sym (member-setOf k p j l))
 
   less-lt : (a b : ℕ) → a < 2 ^ k → bitAnd a (2 ^ k - 1 - b) < 2 ^ k

@@ -58,3 +58,19 @@ count k w = howMany k (member w)
 -- the lowest number in the set, k where it is empty
 abbrev pub lowest : ℕ → ℕ → ℕ
 lowest k w = first k (member w)
+
+-- ---- numbers in a ring: k - 1 is followed by 0
+
+-- the set turned down by s: j is in it where s + j is in w
+abbrev pub rotate : ℕ → ℕ → ℕ → ℕ
+rotate k w s = setOf k (λ j. member w ((s + j) % k))
+
+-- how many numbers from s up are in the set without a gap, at most k
+abbrev pub run : ℕ → ℕ → ℕ → ℕ
+run k w s = first k (λ j. not (member w ((s + j) % k)))
+
+-- ---- a test of every number below k
+
+unfoldable pub every : ℕ → (ℕ → Bool) → Bool
+every zero p = true
+every (suc k) p = p k && every k p

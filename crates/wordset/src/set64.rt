@@ -1,6 +1,6 @@
 // Sets of the numbers 0 to 63, as a u64.
 ghost use mathlib.Core.Path.{_≡_};
-ghost use Rattle.wordset.specs.Sets.{member, with, without, union, difference, count, lowest};
+ghost use Rattle.wordset.specs.Sets.{member, with, without, union, difference, count, lowest, rotate, run};
 
 // Whether the number is in the set.
 pub fn member(set: u64, number: u8) -> bool
@@ -61,4 +61,19 @@ pub fn lowest(set: u64) -> u8
     ensures { λ r. ⌜ r ≡ lowest 64 set ⌝ }
 {
     u64::trailing_zeros(set) as u8
+}
+
+// The set turned down by the start, 63 being followed by 0: what was start + j becomes j.
+pub fn rotate(set: u64, start: u8) -> u64
+    ensures { λ r. ⌜ r ≡ rotate 64 set start ⌝ }
+{
+    let n = (start % 64) as u64;
+    (set >> n) | (set << ((64 - n) % 64))
+}
+
+// How many numbers from the start up are in the set without a gap, 63 being followed by 0.
+pub fn run(set: u64, start: u8) -> u8
+    ensures { λ r. ⌜ r ≡ run 64 set start ⌝ }
+{
+    u64::trailing_zeros(!rotate(set, start)) as u8
 }

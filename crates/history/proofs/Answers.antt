@@ -1,0 +1,116 @@
+-- The cases of an arrival and of a clock end in a state in good order, as equations, and what an answer hands on.
+-- Assumes nothing.
+use mathlib.Core.Path.{_≡_, refl, sym, ap, _∙_}
+use mathlib.Core.Bool.{true, false}
+use mathlib.Core.List.{List, []}
+use mathlib.Core.Logic.{_⊎_, inl, inr}
+use Prim.Native.Nat.{ℕ, _-_, _≤_, _<_}
+use native.Mathlib.Omega.{arith}
+use lib.ListN.{length, replicate}
+use lib.Seq.{take-append-seam}
+use borrow.Author.Tests.{lt-ltb, le-ltb}
+use Rattle.refusal.specs.declared.Refusal.{Refusal}
+use Rattle.refusal.specs.declared.Refusal.the-variants.{OutOfRange}
+use Rattle.refusal.specs.declared.Verdict.{Verdict}
+use Rattle.refusal.specs.declared.Verdict.the-variants.{Done, Refused}
+use Rattle.sequence.specs.Numbers.{inField}
+use Rattle.resequencer.specs.declared.Resequencer.{Resequencer}
+use Rattle.resequencer.specs.declared.Outcome.{Outcome}
+use Rattle.resequencer.specs.declared.Outcome.the-variants.{Held, HandedOn, Old, Duplicate, Refused as NotTaken}
+use Rattle.resequencer.specs.declared.Answer.{Answer}
+use Rattle.resequencer.specs.State.{isHeld, hasClock, ahead, goodOrder}
+use Rattle.resequencer.specs.Events.{plain, places, handOn, hold, handOnRun, takeArrival, arriveVerdict, arriveOf, takeClockEnd, clockEndVerdict, clockEndOf}
+use Rattle.resequencer.proofs.Cases.{old, duplicate, expected, held-on, arrive-done, arrive-refused, end-done, end-refused, end-passed}
+use Rattle.history.specs.Events.{handed}
+
+-- ---- what an answer hands on
+
+pub handed-plain : (o : Outcome) (s : Resequencer) → handed (plain o s) ≡ []
+unfolding handed plain
+handed-plain o s = refl
+
+pub handed-handOn : (ts : List ℕ) (s : Resequencer) → handed (handOn ts s) ≡ ts
+unfolding handed handOn places
+handed-handOn ts s = take-append-seam ts (replicate (32 - length ts) 0)
+
+pub next-plain : (o : Outcome) (s : Resequencer) → plain o s .next ≡ s
+unfolding plain
+next-plain o s = refl
+
+pub next-handOn : (ts : List ℕ) (s : Resequencer) → handOn ts s .next ≡ s
+unfolding handOn
+next-handOn ts s = refl
+
+-- ---- arrivals
+
+module _ (s : Resequencer) (n ticket : ℕ) (g : goodOrder s ≡ true) where
+  pub arrive-stray : 64 ≤ n → arriveOf s n ticket ≡ plain (NotTaken OutOfRange) s
+  unfolding arriveVerdict
+  arrive-stray h = let e : inField 64 n ≡ false = le-ltb n 64 h in arrive-refused s n ticket OutOfRange (simp (g, e))
+
+  arrive-taken : n < 64 → arriveOf s n ticket ≡ takeArrival s n ticket
+  unfolding arriveVerdict
+  arrive-taken h = let e : inField 64 n ≡ true = lt-ltb n 64 h in arrive-done s n ticket (simp (g, e))
+
+  pub arrive-old : n < 64 → 31 < ahead s n → arriveOf s n ticket ≡ plain Old s
+  arrive-old l h = arrive-taken l ∙ old s n ticket h
+
+  pub arrive-duplicate : n < 64 → ahead s n ≤ 31 → isHeld s n ≡ true → arriveOf s n ticket ≡ plain Duplicate s
+  arrive-duplicate l h e = arrive-taken l ∙ duplicate s n ticket h e
+
+  pub arrive-expected : n < 64 → ahead s n ≡ 0 → isHeld s n ≡ false → arriveOf s n ticket ≡ handOnRun s ticket
+  arrive-expected l h e = arrive-taken l ∙ expected s n ticket h e
+
+  pub arrive-early : n < 64 → 1 ≤ ahead s n → ahead s n ≤ 31 → isHeld s n ≡ false → arriveOf s n ticket ≡ plain Held (hold s n ticket)
+  arrive-early l b h e = arrive-taken l ∙ held-on s n ticket h e (λ q. omega arith)
+
+-- ---- clock ends
+
+-- the number has a clock, or the end is refused and the state stays
+abbrev pub ClockCases : Resequencer → ℕ → Type 0
+ClockCases s n =
+    ((n < 64) × (hasClock s n ≡ true) × (clockEndOf s n ≡ takeClockEnd s n)) ⊎ ((why : Refusal) × (clockEndOf s n ≡ plain (NotTaken why) s))
+
+pub clock-cases : (s : Resequencer) (n : ℕ) → ClockCases s n
+clock-cases s n = go (clockEndVerdict s n) refl
+  where
+    go : (v : Verdict) → clockEndVerdict s n ≡ v → ClockCases s n
+    go Done e = let w = end-passed s n e in inl (w .1 .0, w .1 .1, end-done s n e)
+    go (Refused why) e = inr (why, end-refused s n why e)
+
+-- a clock end that says it was refused was refused
+pub clock-refuses : (s : Resequencer) (n : ℕ) (why : Refusal) → clockEndOf s n .outcome ≡ NotTaken why → clockEndOf s n ≡ plain (NotTaken why) s
+clock-refuses s n why e = go (clock-cases s n)
+  where
+    taken-says : takeClockEnd s n .outcome ≡ HandedOn
+    taken-says = unfold takeClockEnd handOn in refl
+
+    plain-says : (w : Refusal) → plain (NotTaken w) s .outcome ≡ NotTaken w
+    plain-says w = unfold plain in refl
+
+    go : ClockCases s n → clockEndOf s n ≡ plain (NotTaken why) s
+    go (inl w) =
+        let q : HandedOn ≡ NotTaken why = sym (ap (λ (a : Answer). a .outcome) (w .2) ∙ taken-says) ∙ e in
+        let z : _≡_ {A = ℕ} 0 1 = cc in
+        absurd (omega arith)
+    go (inr w) =
+        let q : NotTaken (w .0) ≡ NotTaken why = sym (ap (λ (a : Answer). a .outcome) (w .1) ∙ plain-says (w .0)) ∙ e in
+        let r : w .0 ≡ why = cc in
+        w .1 ∙ ap (λ (x : Refusal). plain (NotTaken x) s) r
+
+-- where a clock runs, its end hands on
+pub clock-taken : (s : Resequencer) (n : ℕ) → goodOrder s ≡ true → n < 64 → hasClock s n ≡ true → clockEndOf s n ≡ takeClockEnd s n
+unfolding clockEndVerdict
+clock-taken s n g l h = let e : inField 64 n ≡ true = lt-ltb n 64 l in end-done s n (simp (g, e, h))
+
+pub clock-taken-says : (s : Resequencer) (n : ℕ) → clockEndOf s n ≡ takeClockEnd s n → clockEndOf s n .outcome ≡ HandedOn
+unfolding takeClockEnd handOn
+clock-taken-says s n e = ap (λ (a : Answer). a .outcome) e
+
+pub clock-refused-says : (s : Resequencer) (n : ℕ) (why : Refusal) → clockEndOf s n ≡ plain (NotTaken why) s → clockEndOf s n .outcome ≡ NotTaken why
+unfolding plain
+clock-refused-says s n why e = ap (λ (a : Answer). a .outcome) e
+
+pub handOn-says : (ts : List ℕ) (s : Resequencer) → handOn ts s .outcome ≡ HandedOn
+unfolding handOn
+handOn-says ts s = refl

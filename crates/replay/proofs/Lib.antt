@@ -1,0 +1,2 @@
+-- The input run part by part.
+pub mod Parts

@@ -1,0 +1,25 @@
+-- `replay_cases::run_part` meets its contract: the report lies within the output.
+-- Assumes nothing.
+use mathlib.Core.Path.{sym}
+use lib.Seq.{length-take-le}
+use borrow.Author.Needs.{needs}
+use Rattle.script.proofs.Feeding.{feed-fits}
+use Rattle.replay_cases.proofs.run_part.Statement.{statement}
+use Rattle.replay_cases.proofs.run_part.Tie as tie
+
+slice-reshare-prefix-write-all : tie.Need-slice-reshare-prefix-write-all
+slice-reshare-prefix-write-all c = feed-fits _ _ _ (c .before .before .feed .ensures .0) (c .before .before .feed .ensures .1)
+
+slice-aggregate-write-all : tie.Need-slice-aggregate-write-all
+slice-aggregate-write-all c = sym (length-take-le _ _ (feed-fits _ _ _ (c .before .before .before .feed .ensures .0) (c .before .before .before .feed .ensures .1)))
+
+pub run-part-spec : {M : Type 1} → statement M
+run-part-spec =
+    tie.close
+    (tie.spec
+    (λ c κs. search needs)
+    slice-reshare-prefix-write-all
+    slice-aggregate-write-all
+    (λ c κs. search needs)
+    (λ c. search needs)
+    (λ c. search needs))

@@ -1,0 +1,9 @@
+-- What is proved of the resequencer's definitions.
+pub mod Order
+pub mod Bounds
+pub mod Cases
+pub mod Passing
+pub mod Handing
+pub mod Stray
+pub mod Deciding
+pub mod Values

@@ -1,0 +1,118 @@
+-- The numbers that NESN passes: their mask, what is left of the sets, and the tickets left.
+-- Assumes nothing.
+use mathlib.Core.Path.{_≡_, refl, sym, ap, ap₂, _∙_}
+use mathlib.Core.Bool.{Bool, not, cond, _&&_}
+use mathlib.Core.List.{List}
+use mathlib.Core.Logic.{_≢_}
+use Prim.Native.Nat.{ℕ, zero, suc, _+_, _-_, _*_, _%_, _^_, _<_}
+use native.Mathlib.Decide.{decLt}
+use native.Mathlib.Omega.{arith}
+use lib.Dec.{ltb, lit<}
+use lib.ListN.{length, getD, set, length-set}
+use lib.Seq.{ext-getD, getD-set-same, getD-set-other}
+use borrow.Author.Tests.{lt-ltb, le-ltb}
+use Rattle.sequence.specs.declared.LinkNumber.{LinkNumber}
+use Rattle.sequence.specs.Modular.{distance}
+use Rattle.sequence.specs.Numbers.{link}
+use Rattle.sequence.proofs.Modular.{distance-at, at-distance}
+use Rattle.wordset.specs.Sets.{member, setOf, difference, rotate}
+use Rattle.wordset.proofs.Sets.{setOf-same, member-setOf}
+use Rattle.wordset.proofs.Words.{mask}
+use Rattle.wordset.proofs.Masks.{member-ones}
+use Rattle.resequencer.specs.declared.Resequencer.{Resequencer}
+use Rattle.resequencer.specs.Events.{isPassed, remaining, listFrom, advance}
+use Rattle.resequencer.specs.Parts.{passedNumbers, ticketsLeft, hsnrLeft}
+
+-- ---- the mask
+
+pub ones-passed : (nesn m : ℕ) → nesn < 64 → m < 64 → rotate 64 (1 * 2 ^ m % 2 ^ 64 - 1) (64 - nesn) ≡ passedNumbers nesn m
+unfolding passedNumbers distance
+ones-passed nesn m h l =
+    ap (λ (w : ℕ). rotate 64 (w - 1) (64 - nesn)) (mask 64 m l)
+    ∙ setOf-same 64 (λ j. member (2 ^ m - 1) ((64 - nesn + j) % 64)) _ (λ j b.
+    member-ones m ((64 - nesn + j) % 64) ∙ ap (λ (x : ℕ). ltb x m) (turn j))
+  where
+    turn : (j : ℕ) → (64 - nesn + j) % 64 ≡ (j + (64 - nesn % 64)) % 64
+    turn j = omega arith
+
+pub difference-remaining : (s : Resequencer) (m w : ℕ) → difference 64 w (passedNumbers (s .nesn .0) m) ≡ remaining s m w
+unfolding remaining passedNumbers
+difference-remaining s m w =
+    setOf-same 64 (λ j. member w j && not (member (setOf 64 (isPassed s m)) j)) (λ j. member w j && not (isPassed s m j)) (λ j l.
+    ap (λ (b : Bool). member w j && not b) (member-setOf 64 (isPassed s m) j l))
+
+-- ---- lists told by their places
+
+pub length-from : (k n : ℕ) (f : ℕ → ℕ) → length (listFrom k n f) ≡ n
+unfolding listFrom
+length-from k zero f = refl
+length-from k (suc n) f = ap suc (length-from (suc k) n f)
+
+pub getD-from : (k n : ℕ) (f : ℕ → ℕ) (i : ℕ) → i < n → getD (listFrom k n f) i 0 ≡ f (k + i)
+unfolding listFrom
+getD-from k zero f i h = absurd (omega arith)
+getD-from k (suc n) f zero h = ap f (omega arith)
+getD-from k (suc n) f (suc i) h = getD-from (suc k) n f i (omega arith) ∙ ap f (omega arith)
+
+-- a list of n places is told by what stands at each
+pub is-from : (n : ℕ) (l : List ℕ) (f : ℕ → ℕ) → length l ≡ n → ((i : ℕ) → i < n → getD l i 0 ≡ f i) → l ≡ listFrom 0 n f
+is-from n l f e g =
+    ext-getD 0 l (listFrom 0 n f) (e ∙ sym (length-from 0 n f)) (λ i h.
+    let b : i < n = omega arith in
+    g i b ∙ ap f (omega arith) ∙ sym (getD-from 0 n f i b))
+
+-- ---- the tickets left
+
+module _ (nesn : ℕ) where
+  left : List ℕ → ℕ → ℕ → ℕ
+  left tickets m n = cond (ltb (distance 64 nesn n) m) 0 (getD tickets n 0)
+
+  -- none passed
+  pub left-none : (tickets : List ℕ) (m : ℕ) → length tickets ≡ 64 → m ≡ 0 → tickets ≡ ticketsLeft tickets nesn m
+  unfolding ticketsLeft left
+  left-none tickets m e z =
+      is-from 64 tickets (left tickets m) e (λ i h. sym (ap (λ (b : Bool). cond b 0 (getD tickets i 0)) (le-ltb (distance 64 nesn i) m (omega arith))))
+
+  -- one more
+  pub left-more : (tickets l : List ℕ) (i at : ℕ) → i < 64 → l ≡ ticketsLeft tickets nesn i → at ≡ (nesn + i) % 64 → set l at 0 ≡ ticketsLeft tickets nesn (i + 1)
+  unfolding ticketsLeft left
+  left-more tickets l i at h e a =
+      ap₂ (λ (x : List ℕ) (y : ℕ). set x y 0) e a
+      ∙ is-from 64 (set (listFrom 0 64 (left tickets i)) ((nesn + i) % 64) 0) (left tickets (i + 1))
+      (length-set (listFrom 0 64 (left tickets i)) ((nesn + i) % 64) 0 ∙ length-from 0 64 (left tickets i)) step
+    where
+      -- a number at another distance stands at another place
+      other : (n : ℕ) → n < 64 → distance 64 nesn n ≢ i → getD (set (listFrom 0 64 (left tickets i)) ((nesn + i) % 64) 0) n 0 ≡ left tickets i n
+      other n b d =
+          getD-set-other (listFrom 0 64 (left tickets i)) ((nesn + i) % 64) n 0 0 (λ q. d (ap (distance 64 nesn) q ∙ distance-at 64 (lit< tt) nesn i h))
+          ∙ getD-from 0 64 (left tickets i) n b ∙ ap (left tickets i) (omega arith)
+
+      step : (n : ℕ) → n < 64 → getD (set (listFrom 0 64 (left tickets i)) ((nesn + i) % 64) 0) n 0 ≡ left tickets (i + 1) n
+      step n b = elim (decLt (distance 64 nesn n) i) [
+        | yes c ↦ other n b (omega arith) ∙ ap (λ (x : Bool). cond x 0 (getD tickets n 0)) (lt-ltb (distance 64 nesn n) i c ∙ sym (lt-ltb (distance 64 nesn n) (i + 1) (omega arith)))
+        | no c ↦
+            elim (decLt i (distance 64 nesn n)) [
+              | yes d ↦ other n b (omega arith) ∙ ap (λ (x : Bool). cond x 0 (getD tickets n 0)) (le-ltb (distance 64 nesn n) i (omega arith) ∙ sym (le-ltb (distance 64 nesn n) (i + 1) (omega arith)))
+              | no d ↦
+                  let same : distance 64 nesn n ≡ i = omega arith in
+                  let place : (nesn + i) % 64 ≡ n = ap (λ (x : ℕ). (nesn + x) % 64) (sym same) ∙ at-distance 64 (lit< tt) nesn n b in
+                  ap (λ (x : ℕ). getD (set (listFrom 0 64 (left tickets i)) x 0) n 0) place
+                  ∙ getD-set-same (listFrom 0 64 (left tickets i)) n 0 0 (omega (arith, length-from 0 64 (left tickets i)))
+                  ∙ ap (λ (x : Bool). cond x 0 (getD tickets n 0)) (sym (lt-ltb (distance 64 nesn n) (i + 1) (omega arith)))
+            ]
+      ]
+
+-- ---- the state after it
+
+pub advanced : (s : Resequencer) (m passed held clocks : ℕ) (hsnr : LinkNumber) (tickets : List ℕ) → passed ≡ passedNumbers (s .nesn .0) m
+    → held ≡ difference 64 (s .held) passed → clocks ≡ difference 64 (s .clocks) passed → hsnr ≡ hsnrLeft held (s .hsnr) → tickets ≡ ticketsLeft (s .tickets) (s .nesn .0) m
+    → _≡_ {A = Resequencer} (record { nesn = link ((s .nesn .0 + m) % 64); hsnr = hsnr; held = held; clocks = clocks; tickets = tickets }) (advance s m)
+unfolding advance ticketsLeft
+advanced s m passed held clocks hsnr tickets p h c n t =
+    let a : held ≡ remaining s m (s .held) = h ∙ ap (difference 64 (s .held)) p ∙ difference-remaining s m (s .held) in
+    let b : clocks ≡ remaining s m (s .clocks) = c ∙ ap (difference 64 (s .clocks)) p ∙ difference-remaining s m (s .clocks) in
+    let d : hsnr ≡ hsnrLeft (remaining s m (s .held)) (s .hsnr) = n ∙ ap (λ (w : ℕ). hsnrLeft w (s .hsnr)) a in
+    ap₂ (λ (x : LinkNumber) (y : ℕ). state x y clocks tickets) d a ∙ ap₂ (λ (y : ℕ) (l : List ℕ). state (hsnrLeft (remaining s m (s .held)) (s .hsnr)) (remaining s m (s .held)) y l) b t
+  where
+    state : LinkNumber → ℕ → ℕ → List ℕ → Resequencer
+    state x y z l = record { nesn = link ((s .nesn .0 + m) % 64); hsnr = x; held = y; clocks = z; tickets = l }

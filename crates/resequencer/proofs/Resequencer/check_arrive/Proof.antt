@@ -1,0 +1,22 @@
+-- `resequencer::Resequencer::check_arrive` meets its contract: each way out knows the tests that led there.
+-- Assumes nothing.
+use mathlib.Core.Path.{sym, _∙_}
+use borrow.Author.Needs.{needs}
+use Rattle.resequencer.specs.Events.{arriveVerdict}
+use Rattle.resequencer.proofs.Resequencer.check_arrive.Statement.{statement}
+use Rattle.resequencer.proofs.Resequencer.check_arrive.Tie as tie
+
+returns : tie.Need-returns
+unfolding arriveVerdict
+returns c = simp (sym (c .before .before .before .in-order .ensures) ∙ c .before .before .if1 .taken, sym (c .before .in-field .ensures) ∙ c .if2 .taken)
+
+returns-2 : tie.Need-returns-2
+unfolding arriveVerdict
+returns-2 c = simp (sym (c .before .before .before .in-order .ensures) ∙ c .before .before .if1 .taken, sym (c .before .in-field .ensures) ∙ c .if2 .left)
+
+returns-3 : tie.Need-returns-3
+unfolding arriveVerdict
+returns-3 c = simp (sym (c .before .in-order .ensures) ∙ c .if1 .left)
+
+pub check-arrive-spec : {M : Type 1} → statement M
+check-arrive-spec = tie.close (tie.spec (λ c κs. search needs) (λ c κs. search needs) returns returns-2 returns-3)
