@@ -7,3 +7,4 @@ pub mod Handing
 pub mod Stray
 pub mod Deciding
 pub mod Values
+pub mod Refusing

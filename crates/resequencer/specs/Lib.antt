@@ -2,3 +2,4 @@
 pub mod State
 pub mod Events
 pub mod Parts
+pub mod Refusing

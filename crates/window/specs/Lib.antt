@@ -3,3 +3,4 @@ pub mod Sending
 pub mod Receiving
 pub mod History
 pub mod BothEnds
+pub mod Refusing

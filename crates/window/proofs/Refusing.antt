@@ -1,0 +1,53 @@
+-- Refusals change nothing: a call that is done has the number 0, and a refused one is told by the given end.
+-- Assumes nothing.
+use mathlib.Core.Path.{_≡_, refl}
+use mathlib.Core.Bool.{Bool, true, false, cond}
+use mathlib.Core.Logic.{_≢_}
+use Prim.Native.Nat.{ℕ}
+use Rattle.refusal.specs.declared.Refusal.the-variants.{NotInOrder}
+use Rattle.refusal.specs.declared.Verdict.{Verdict}
+use Rattle.refusal.specs.declared.Verdict.the-variants.{Done, Refused}
+use Rattle.refusal.specs.Numbers.{verdictNumber}
+use Rattle.window.specs.declared.sender.Sender.{Sender}
+use Rattle.window.specs.declared.receiver.Receiver.{Receiver}
+use Rattle.window.specs.declared.receiver.Told.{Told}
+use Rattle.window.specs.declared.receiver.Telling.the-variants.{Tell, Refused as NotTold}
+use Rattle.window.specs.Sending.{grantNumber, grantPs, sendVerdict, sendBy, sendOf, acknowledgeVerdict, acknowledgeBy, acknowledgeOf}
+use Rattle.window.specs.Receiving.{receiverGood, receiptNumber, receiptDue, receiveVerdict, receiveBy, receiveOf, tellingNumber, tellingPr, tellOf}
+use Rattle.window.specs.Refusing.{RefusalsChangeNothing}
+
+send-by : (v : Verdict) (s : Sender) → grantNumber (sendBy v s .answer) ≢ 0 → (grantPs (sendBy v s .answer) ≡ 0) × (sendBy v s .end ≡ s)
+send-by Done s h = absurd (h refl)
+send-by (Refused why) s h = (refl, refl)
+
+acknowledge-by : (v : Verdict) (s : Sender) (pr : ℕ) → verdictNumber (acknowledgeBy v s pr .verdict) ≢ 0 → acknowledgeBy v s pr .end ≡ s
+acknowledge-by Done s pr h = absurd (h refl)
+acknowledge-by (Refused why) s pr h = refl
+
+receive-by : (v : Verdict) (r : Receiver) → receiptNumber (receiveBy v r .answer) ≢ 0
+    → (receiptDue (receiveBy v r .answer) ≡ false) × (receiveBy v r .end ≡ r)
+receive-by Done r h = absurd (h refl)
+receive-by (Refused why) r h = (refl, refl)
+
+tell-by : (r : Receiver) → tellingNumber (tellOf r .answer) ≢ 0 → (tellingPr (tellOf r .answer) ≡ 0) × (tellOf r .end ≡ r)
+unfolding tellOf
+tell-by r h = go (receiverGood r) h
+  where
+    told : Bool → Told
+    told b =
+        cond b
+        (record { answer = Tell (r .expected); end = record { expected = r .expected; first = r .first; untold = 0 } })
+        (record { answer = NotTold NotInOrder; end = r })
+
+    go : (b : Bool) → tellingNumber (told b .answer) ≢ 0 → (tellingPr (told b .answer) ≡ 0) × (told b .end ≡ r)
+    go true h = absurd (h refl)
+    go false h = (refl, refl)
+
+pub refusals-change-nothing : RefusalsChangeNothing
+unfolding sendOf acknowledgeOf receiveOf
+refusals-change-nothing = record {
+  send = λ s. send-by (sendVerdict s) s;
+  acknowledge = λ s pr. acknowledge-by (acknowledgeVerdict s pr) s pr;
+  receive = λ r ps. receive-by (receiveVerdict r ps) r;
+  tell = tell-by;
+}
