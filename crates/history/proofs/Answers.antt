@@ -19,9 +19,8 @@ use Rattle.resequencer.specs.declared.Outcome.{Outcome}
 use Rattle.resequencer.specs.declared.Outcome.the-variants.{Held, HandedOn, Old, Duplicate, Refused as NotTaken}
 use Rattle.resequencer.specs.declared.Answer.{Answer}
 use Rattle.resequencer.specs.State.{isHeld, hasClock, ahead, goodOrder}
-use Rattle.resequencer.specs.Events.{plain, places, handOn, hold, handOnRun, takeArrival, arriveVerdict, arriveOf, takeClockEnd, clockEndVerdict, clockEndOf}
+use Rattle.resequencer.specs.Events.{plain, places, handOn, hold, handOnRun, takeArrival, arriveVerdict, arriveOf, takeClockEnd, clockEndVerdict, clockEndOf, handed}
 use Rattle.resequencer.proofs.Cases.{old, duplicate, expected, held-on, arrive-done, arrive-refused, end-done, end-refused, end-passed}
-use Rattle.history.specs.Events.{handed}
 
 -- ---- what an answer hands on
 

@@ -1,10 +1,10 @@
 -- Good order as an event keeps it: facts by distance from NESN, with the distance of HSNR named.
 -- Assumes nothing.
 use mathlib.Core.Path.{_≡_, refl, sym, ap, _∙_}
-use mathlib.Core.Bool.{Bool, true, false}
+use mathlib.Core.Bool.{Bool, true, false, true≢false}
 use mathlib.Core.Logic.{_⊎_, inl, inr, _≢_}
 use Prim.Native.Nat.{ℕ, suc, _+_, _%_, _^_, _≤_, _<_}
-use native.Mathlib.Nat.{mod-lt, add-mod-mod}
+use native.Mathlib.Nat.{mod-lt}
 use native.Mathlib.Omega.{arith}
 use lib.Dec.{lit<}
 use lib.ListN.{length}
@@ -15,7 +15,7 @@ use Rattle.wordset.proofs.Sets.{member-none}
 use Rattle.wordset.proofs.Masks.{empty}
 use Rattle.resequencer.specs.declared.Resequencer.{Resequencer}
 use Rattle.resequencer.specs.State.{isHeld, hasClock, ticketOf, ahead, numberAt, meetsClock, goodOrder}
-use Rattle.resequencer.proofs.Order.{InOrder, ahead-at, number-ahead, good-order as good-by-distance}
+use Rattle.resequencer.proofs.Order.{InOrder, around, ahead-at, number-ahead, good-order as good-by-distance}
 use Rattle.history.proofs.Places.{heldAt, clockAt, ticketAt, ahead-lt}
 
 -- the state is one that the types allow
@@ -41,13 +41,9 @@ pub record Ordered (s : Resequencer) : Type 0 where
   pub top : ((s .held ≡ 0) × (s .hsnr ≡ link 0)) ⊎ ((e : ℕ) × Top s e)
 
 pub never : {A : Type 0} → true ≡ false → A
-never e = let z : _≡_ {A = ℕ} 0 1 = cc in absurd (omega arith)
+never e = absurd (true≢false e)
 
 -- ---- to good order
-
--- distances go round
-wrap : (s : Resequencer) (d : ℕ) → numberAt s d ≡ numberAt s (d % 64)
-wrap s d = sym (add-mod-mod (s .nesn .0) d 64)
 
 module _ (s : Resequencer) (o : Ordered s) where
   -- something is held, and HSNR is the furthest of it
@@ -68,7 +64,7 @@ module _ (s : Resequencer) (o : Ordered s) where
   facts = record {
     nesn-lt = o .nesn-lt;
     window = o .window;
-    on-held = λ d t. ap (isHeld s) (wrap s d) ∙ o .on-held (d % 64) (mod-lt d (lit< tt)) (sym (ap (hasClock s) (wrap s d)) ∙ t);
+    on-held = λ d t. ap (isHeld s) (sym (around s d)) ∙ o .on-held (d % 64) (mod-lt d (lit< tt)) (ap (hasClock s) (around s d) ∙ t);
     apart = λ d t. beside d t (clockAt s (suc d)) refl;
     idle = λ z. unused z (o .top);
     hsnr-held = λ z. let w = topmost z in ap (isHeld s) (hsnr-is (w .0) (w .1)) ∙ w .1 .held;
@@ -82,7 +78,7 @@ module _ (s : Resequencer) (o : Ordered s) where
       beside d t false e = e
       beside d t true e =
           absurd
-          (o .apart (d % 64) (mod-lt d (lit< tt)) (sym (ap (hasClock s) (wrap s d)) ∙ t) (ap (hasClock s) next ∙ e))
+          (o .apart (d % 64) (mod-lt d (lit< tt)) (ap (hasClock s) (around s d) ∙ t) (ap (hasClock s) next ∙ e))
         where
           next : numberAt s (d % 64 + 1) ≡ numberAt s (suc d)
           next = omega arith

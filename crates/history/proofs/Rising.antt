@@ -11,7 +11,8 @@ use native.Mathlib.Omega.{arith}
 use Rattle.resequencer.specs.declared.Resequencer.{Resequencer}
 use Rattle.resequencer.specs.declared.Outcome.the-variants.{HandedOn, Refused}
 use Rattle.resequencer.specs.State.{freshState, goodOrder}
-use Rattle.history.specs.Events.{Event, packet, stray, clockEnd, answer, handed, handedOn, nothing, more, arrivedAfter}
+use Rattle.resequencer.specs.Events.{handed}
+use Rattle.history.specs.Events.{Event, packet, stray, clockEnd, answer, handedOn, nothing, more, arrivedAfter}
 use Rattle.history.specs.Rising.{FirstMissing, ExpectedNext, Near, NearList, StrictlyRise, Each, ownNumber, RisingClaim}
 use Rattle.history.proofs.Order.{good-order, never}
 use Rattle.history.proofs.Standing.{arrivedFrom, Stands}

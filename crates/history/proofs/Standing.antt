@@ -19,7 +19,8 @@ use Rattle.resequencer.specs.State.{isHeld, ahead, numberAt}
 use Rattle.resequencer.specs.Events.{advance, hold, heldTickets}
 use Rattle.resequencer.proofs.Order.{ahead-at}
 use Rattle.history.proofs.Places.{heldAt, ticketAt, same-number, held-after-hold, held-near, ticket-near}
-use Rattle.history.proofs.Order.{Sized, Ordered, never}
+use Rattle.resequencer.proofs.Bounds.{past-window}
+use Rattle.history.proofs.Order.{facts, Sized, Ordered, never}
 use Rattle.history.proofs.Holding.{hold-sized, hold-in-order}
 use Rattle.history.proofs.Advancing.{advance-sized, advance-in-order}
 
@@ -147,12 +148,8 @@ module _ {T : ℕ → ℕ} {E : ℕ} {has : ℕ → Bool} {s : Resequencer} (k :
       nesn-then : advance s m .nesn ≡ link ((E + m) % 64)
       nesn-then = unfold advance in ap link (expected k m)
 
-      far : (d : ℕ) → d < 64 → 32 ≤ d → heldAt s d ≡ false
-      far d b c = go (heldAt s d) refl
-        where
-          go : (t : Bool) → heldAt s d ≡ t → heldAt s d ≡ false
-          go false w = w
-          go true w = absurd (omega (arith, k .order .window d b w .1))
+      far : (d : ℕ) → d < 64 → 31 < d → heldAt s d ≡ false
+      far = past-window s (facts s (k .order))
 
       held : (d : ℕ) → d ≤ 31 → Dec (m + d < 32) → heldAt s (m + d) ≡ now (E + m + d)
       held d b (yes c) = k .held-is (m + d) (omega arith) ∙ ap has (omega arith) ∙ sym (e (E + m + d) (omega arith))

@@ -22,8 +22,8 @@ use Rattle.resequencer.specs.declared.Outcome.the-variants.{Held, Old, Duplicat
 use Rattle.resequencer.specs.declared.Answer.{Answer}
 use Rattle.wordset.proofs.Sets.{member-none}
 use Rattle.resequencer.specs.State.{freshState, isHeld, hasClock, ahead, numberAt, goodOrder}
-use Rattle.resequencer.specs.Events.{plain, handOn, advance, heldTickets, hold, takeClockEnd, clockEndOf}
-use Rattle.history.specs.Events.{Event, packet, stray, clockEnd, answer, handed, brings, nothing, more}
+use Rattle.resequencer.specs.Events.{plain, handOn, advance, heldTickets, hold, takeClockEnd, clockEndOf, handed}
+use Rattle.history.specs.Events.{Event, packet, stray, clockEnd, answer, brings, nothing, more}
 use Rattle.history.specs.Rising.{FirstMissing}
 use Rattle.resequencer.proofs.Order.{number-lt}
 use Rattle.history.proofs.Places.{heldAt}
@@ -135,7 +135,7 @@ module _ {T : ℕ → ℕ} {E : ℕ} {has : ℕ → Bool} {s : Resequencer} (k :
   stays n w q = (w, still-missing (packet n) w q)
 
   -- E itself arrives
-  pub expected-steps : (w : Steps T E has s (packet E)) × FirstMissing (more has (packet E)) E (w .next)
+  expected-steps : (w : Steps T E has s (packet E)) × FirstMissing (more has (packet E)) E (w .next)
   unfolding more
   expected-steps =
       let p = run-passes s (k .order) (T E) in
@@ -171,9 +171,6 @@ module _ {T : ℕ → ℕ} {E : ℕ} {has : ℕ → Bool} {s : Resequencer} (k :
       first-or-later n a here later h (yes c) = later n c ∙ h c
       first-or-later n a here later h (no c) = ap (more has (packet E)) (omega arith) ∙ here
 
-  other : (n : ℕ) → ((m : ℕ) → E ≤ m → more has (packet n) m ≡ has m) → Stands T E (more has (packet n)) s
-  other n same = stands-ext same k
-
   -- it is behind: old
   old-steps : (n : ℕ) → n < E → E ≤ n + 32 → (w : Steps T E has s (packet n)) × FirstMissing (more has (packet n)) E (w .next)
   unfolding more
@@ -182,7 +179,7 @@ module _ {T : ℕ → ℕ} {E : ℕ} {has : ℕ → Bool} {s : Resequencer} (k :
       ap (λ (x : ℕ). ahead s x) (sym (add-mod-right n 64) ∙ ap (λ (x : ℕ). x % 64) (omega arith)) ∙ ahead-is k (n + 64 - E) (omega arith) in
       stays n
       (stay (packet n) Old s (arrive-old s (n % 64) (T n) good (mod-lt n (lit< tt)) (omega arith))
-      (other n (λ m b. ap (λ (x : Bool). has m || x) (ne-eqb n m (λ q. omega arith)) ∙ or-false (has m))))
+      (stands-ext (λ m b. ap (λ (x : Bool). has m || x) (ne-eqb n m (λ q. omega arith)) ∙ or-false (has m)) k))
       refl
 
   -- it is ahead: held, or held already
@@ -207,7 +204,7 @@ module _ {T : ℕ → ℕ} {E : ℕ} {has : ℕ → Bool} {s : Resequencer} (k :
       go true e =
           stays (E + d)
           (stay (packet (E + d)) Duplicate s (arrive-duplicate s ((E + d) % 64) (T (E + d)) good (mod-lt (E + d) (lit< tt)) (omega (arith, at)) (place ∙ e))
-          (other (E + d) (λ m b. known e m)))
+          (stands-ext (λ m b. known e m) k))
           refl
       go false e =
           stays (E + d)

@@ -4,10 +4,9 @@ use mathlib.Core.Bool.{Bool, false, _||_}
 use mathlib.Core.List.{List, [], _∷_, _++_}
 use Prim.Native.Nat.{ℕ, _%_}
 use lib.Dec.{eqb}
-use lib.ListN.{take}
 use Rattle.resequencer.specs.declared.Resequencer.{Resequencer}
 use Rattle.resequencer.specs.declared.Answer.{Answer}
-use Rattle.resequencer.specs.Events.{arriveOf, clockEndOf}
+use Rattle.resequencer.specs.Events.{handed, arriveOf, clockEndOf}
 
 -- a call: the packet with this true number arrives, "sent modulo 64"; "an arrival with SN over 63", with some ticket, which "carries no true
 -- number"; the clock of a sequence number ends
@@ -22,19 +21,10 @@ answer T s (packet n) = arriveOf s (n % 64) (T n)
 answer T s (stray sn ticket) = arriveOf s sn ticket
 answer T s (clockEnd sn) = clockEndOf s sn
 
--- the tickets that an answer hands on
-unfoldable pub handed : Answer → List ℕ
-handed a = take (a .count) (a .tickets)
-
 -- "the tickets handed on by all answers in turn"
 unfoldable pub handedOn : (ℕ → ℕ) → Resequencer → List Event → List ℕ
 handedOn T s [] = []
 handedOn T s (e ∷ es) = handed (answer T s e) ++ handedOn T (answer T s e .next) es
-
--- the state after the calls
-unfoldable pub stateAfter : (ℕ → ℕ) → Resequencer → List Event → Resequencer
-stateAfter T s [] = s
-stateAfter T s (e ∷ es) = stateAfter T (answer T s e .next) es
 
 -- the call brings the true number n: "any other has arrived, even if old or duplicate"
 abbrev pub brings : Event → ℕ → Bool

@@ -22,7 +22,7 @@ use Rattle.wordset.proofs.Masks.{empty, within, within-none, within-le, apart, 
 use Rattle.resequencer.specs.declared.Resequencer.{Resequencer}
 use Rattle.resequencer.specs.State.{isHeld, hasClock, ticketOf, ahead, numberAt, meetsClock, clockBelowHsnr, ticketsOfHeld, goodOrder}
 use Rattle.resequencer.specs.Parts.{windowInOrder, hsnrInOrder, ticketFits}
-use Rattle.resequencer.proofs.Order.{both, same-test, implied, implication, InOrder, in-order, good-order, number-ahead}
+use Rattle.resequencer.proofs.Order.{around, both, same-test, implied, implication, InOrder, in-order, good-order, number-ahead}
 
 -- ---- the carry: going down from d through held numbers a clock is met exactly if h + c, cut off above d, carries out of d
 
@@ -36,12 +36,6 @@ meets-same p q p′ q′ zero f g = refl
 meets-same p q p′ q′ (suc d) f g =
     ap₂ (λ (x y : Bool). x && (y || meetsClock p q d)) (f (suc d) (omega arith)) (g (suc d) (omega arith))
     ∙ ap (λ (z : Bool). p′ (suc d) && (q′ (suc d) || z)) (meets-same p q p′ q′ d (λ k l. f k (omega arith)) (λ k l. g k (omega arith)))
-
--- the number from which a clock is met is held
-pub meets-held : (p q : ℕ → Bool) (d : ℕ) → meetsClock p q d ≡ true → p d ≡ true
-unfolding meetsClock
-meets-held p q zero e = absurd (false≢true e)
-meets-held p q (suc d) e = both-true (p (suc d)) _ e .0
 
 module _ (h c : ℕ) (low : member h 0 ≡ false) (sub : (d : ℕ) → d < 64 → member c d ≡ true → member h d ≡ true) where
   carry : (d : ℕ) → d < 64 → meetsClock (member h) (member c) d ≡ leb (2 ^ suc d) (h % 2 ^ suc d + c % 2 ^ suc d)
@@ -198,17 +192,13 @@ module _ (s : Resequencer) where
       ∙ ap (λ (w : ℕ). member w (ahead s n)) z ∙ member-none (ahead s n))
 
   module _ (fit : s .held < 2 ^ 64) where
-    -- a distance from 64 up is one below
-    around : (d : ℕ) → numberAt s (d % 64) ≡ numberAt s d
-    around d = omega arith
-
     ordered : s .nesn .0 < 64 → Words h c e (s .hsnr .0) → ticketsOfHeld s ≡ true → InOrder s
     unfolding ticketsOfHeld
     ordered n w t = record {
       nesn-lt = n;
       window = in-window;
       on-held = clocks-held;
-      apart = λ d k. ap (hasClock s) (next d) ∙ alone (d % 64) (mod-lt d (lit< tt)) (ap (hasClock s) (around d) ∙ k);
+      apart = λ d k. ap (hasClock s) (next d) ∙ alone (d % 64) (mod-lt d (lit< tt)) (ap (hasClock s) (around s d) ∙ k);
       idle = λ z. w .none (none-turned z);
       hsnr-held = λ z.
           let q : h ≢ 0 = λ y. z (none-held fit y) in
@@ -231,8 +221,8 @@ module _ (s : Resequencer) where
         clocks-held : (d : ℕ) → hasClock s (numberAt s d) ≡ true → isHeld s (numberAt s d) ≡ true
         clocks-held d k =
             let l : d % 64 < 64 = mod-lt d (lit< tt) in
-            ap (isHeld s) (sym (around d)) ∙ sym (held-at (d % 64) l)
-            ∙ w .on-held (d % 64) l (clock-at (d % 64) l ∙ ap (hasClock s) (around d) ∙ k)
+            ap (isHeld s) (sym (around s d)) ∙ sym (held-at (d % 64) l)
+            ∙ w .on-held (d % 64) l (clock-at (d % 64) l ∙ ap (hasClock s) (around s d) ∙ k)
 
         -- 63 and 64, which is 0 again: nothing is held at 63
         alone : (d : ℕ) → d < 64 → hasClock s (numberAt s d) ≡ true → hasClock s (numberAt s (suc d)) ≡ false

@@ -4,7 +4,7 @@ use mathlib.Core.Path.{_≡_, refl, sym, ap, _∙_, subst}
 use mathlib.Core.Bool.{Bool, true, false, not, _&&_, false≢true}
 use mathlib.Core.Logic.{_≢_}
 use Prim.Native.Nat.{ℕ, suc, _+_, _%_, _≤_, _<_}
-use native.Mathlib.Nat.{mod-lt}
+use native.Mathlib.Nat.{mod-lt, add-mod-mod}
 use native.Mathlib.Omega.{arith}
 use lib.Dec.{leb, ltb, lit<}
 use borrow.Author.Tests.{ltb-true, lt-ltb, leb-true, le-leb, eqb-true, eqb-false, eq-eqb, ne-eqb, not-true}
@@ -55,6 +55,10 @@ module _ (s : Resequencer) where
 
   pub next-number : (d : ℕ) → (numberAt s d + 1) % 64 ≡ numberAt s (suc d)
   next-number d = omega arith
+
+  -- distances go round
+  pub around : (d : ℕ) → numberAt s (d % 64) ≡ numberAt s d
+  around d = add-mod-mod (s .nesn .0) d 64
 
 pub record InOrder (s : Resequencer) : Type 0 where
   pub nesn-lt : s .nesn .0 < 64

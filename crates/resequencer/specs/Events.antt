@@ -1,17 +1,15 @@
 -- Arrivals and clock ends: document 01, "The resequencer". Each definition gives the whole answer: what happened, the count, the tickets in
 -- order with the unused places 0, and the next state.
 -- Assumes nothing.
-use mathlib.Core.Bool.{Bool, true, false, not, cond, _&&_, _||_}
+use mathlib.Core.Bool.{Bool, not, cond, _&&_, _||_}
 use mathlib.Core.List.{List, [], _∷_, _++_}
 use Prim.Native.Nat.{ℕ, zero, suc, _+_, _-_, _%_}
-use lib.Dec.{leb, ltb, eqb}
-use lib.ListN.{length, set, replicate}
-use Rattle.refusal.specs.declared.Refusal.{Refusal}
+use lib.Dec.{ltb, eqb}
+use lib.ListN.{length, set, take, replicate}
 use Rattle.refusal.specs.declared.Refusal.the-variants.{OutOfRange, NoClock, NotInOrder}
 use Rattle.refusal.specs.declared.Verdict.{Verdict}
 use Rattle.refusal.specs.declared.Verdict.the-variants.{Done, Refused}
 use Rattle.refusal.specs.Numbers.{numberOf, check}
-use Rattle.sequence.specs.Modular.{distance}
 use Rattle.sequence.specs.Numbers.{link, inField}
 use Rattle.wordset.specs.Sets.{member, setOf, with, run}
 use Rattle.resequencer.specs.declared.Resequencer.{Resequencer}
@@ -40,6 +38,10 @@ places tickets = tickets ++ replicate (32 - length tickets) 0
 
 unfoldable pub handOn : List ℕ → Resequencer → Answer
 handOn tickets s = record { outcome = HandedOn; count = length tickets; tickets = places tickets; next = s }
+
+-- the tickets that an answer hands on
+unfoldable pub handed : Answer → List ℕ
+handed a = take (a .count) (a .tickets)
 
 -- ---- NESN goes up by m: the m numbers from it are passed
 
@@ -106,7 +108,7 @@ takeArrival s n ticket =
     (cond (eqb (ahead s n) 0) (handOnRun s ticket)
     (plain Held (hold s n ticket))))
 
--- "in the order 14, 1"
+-- "Order: 14, then 1"
 unfoldable pub arriveVerdict : Resequencer → ℕ → Verdict
 arriveVerdict s n =
     check (goodOrder s) NotInOrder
@@ -130,7 +132,7 @@ passedByClock s n = ahead s n + 1 + run 64 (s .held) ((n + 1) % 64)
 unfoldable pub takeClockEnd : Resequencer → ℕ → Answer
 takeClockEnd s n = handOn (heldTickets s 0 (passedByClock s n)) (advance s (passedByClock s n))
 
--- "in the order 14, 1, then 7"
+-- "Order: 14, then 1, then others": 7, "no clock runs for that number"
 unfoldable pub clockEndVerdict : Resequencer → ℕ → Verdict
 clockEndVerdict s n =
     check (goodOrder s) NotInOrder

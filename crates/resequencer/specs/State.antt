@@ -1,6 +1,6 @@
 -- The state of the resequencer, and its good order: document 01, "The resequencer", first paragraph and the one that begins "Good order".
 -- Assumes nothing.
-use mathlib.Core.Bool.{Bool, true, false, not, _&&_, _||_}
+use mathlib.Core.Bool.{Bool, false, not, _&&_, _||_}
 use Prim.Native.Nat.{ℕ, zero, suc, _+_, _%_}
 use lib.Dec.{leb, eqb}
 use lib.ListN.{getD, replicate}

@@ -13,7 +13,8 @@ use Rattle.resequencer.specs.declared.Outcome.{Outcome}
 use Rattle.resequencer.specs.declared.Outcome.the-variants.{Held, HandedOn, Old, Duplicate, Refused}
 use Rattle.resequencer.specs.declared.Answer.{Answer}
 use Rattle.script.specs.Text.{decimal, spaced, allSpaced}
-use Rattle.script.specs.Lines.{ticketsText, resultText, handed, answerText}
+use Rattle.resequencer.specs.Events.{handed}
+use Rattle.script.specs.Lines.{ticketsText, resultText, answerText}
 use Rattle.script.specs.Writing.{Wrote, least}
 use Rattle.script.proofs.Writing.{then, meant, take-least}
 

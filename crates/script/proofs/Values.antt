@@ -6,9 +6,9 @@ use Prim.Native.Nat.{ℕ}
 use Rattle.sequence.specs.Modular.{distance}
 use Rattle.wordset.specs.Sets.{bit, member, setOf, first, howMany, every}
 use Rattle.resequencer.specs.State.{heldInWindow, clocksOnHeld, clocksApart, hsnrFurthest, meetsClock, ticketsOfHeld, goodOrder}
-use Rattle.resequencer.specs.Events.{plain, places, handOn, remaining, listFrom, advance, heldTickets, startsClock, hold, runAfterNesn, handOnRun, takeArrival, arriveVerdict, arriveOf, passedByClock, takeClockEnd, clockEndVerdict, clockEndOf}
+use Rattle.resequencer.specs.Events.{plain, places, handOn, remaining, listFrom, advance, heldTickets, startsClock, hold, runAfterNesn, handOnRun, takeArrival, arriveVerdict, arriveOf, passedByClock, takeClockEnd, clockEndVerdict, clockEndOf, handed}
 use Rattle.script.specs.Text.{decimal, digitAt, numberIn, isNumber, allDigits, isDigit, valueFrom, spaced, allSpaced}
-use Rattle.script.specs.Lines.{report, header, linesText, linesIn, onFirst, lineText, lineNext, answerText, answerTo, lineIn, arrivalOf, clockEndLine, word, afterWord, ticketsText, resultText, handed}
+use Rattle.script.specs.Lines.{report, header, linesText, linesIn, onFirst, lineText, lineNext, answerText, answerTo, lineIn, arrivalOf, clockEndLine, word, afterWord, ticketsText, resultText}
 
 -- `A 2 7`, `A 0 5`, `A 1 6`, `A 2 7`, `E 4`
 abbrev pub wholeScript : List ℕ

@@ -4,7 +4,7 @@ use mathlib.Core.Bool.{cond, _&&_}
 use mathlib.Core.List.{List, [], _∷_, _++_}
 use Prim.Native.Nat.{ℕ}
 use lib.Dec.{eqb, leb}
-use lib.ListN.{getD, take, drop}
+use lib.ListN.{getD, drop}
 use Rattle.refusal.specs.declared.Refusal.the-variants.{Malformed as LineMalformed}
 use Rattle.refusal.specs.Numbers.{numberOf}
 use Rattle.wordset.specs.Sets.{count}
@@ -13,7 +13,7 @@ use Rattle.resequencer.specs.declared.Outcome.{Outcome}
 use Rattle.resequencer.specs.declared.Outcome.the-variants.{Held, HandedOn, Old, Duplicate, Refused}
 use Rattle.resequencer.specs.declared.Answer.{Answer}
 use Rattle.resequencer.specs.State.{freshState}
-use Rattle.resequencer.specs.Events.{plain, arriveOf, clockEndOf}
+use Rattle.resequencer.specs.Events.{plain, handed, arriveOf, clockEndOf}
 use Rattle.script.specs.declared.Line.{Line}
 use Rattle.script.specs.declared.Line.the-variants.{Arrival, ClockEnd, Malformed}
 use Rattle.script.specs.Text.{numberIn, decimal, spaced, allSpaced}
@@ -65,10 +65,6 @@ resultText HandedOn tickets = ticketsText tickets
 resultText Old tickets = 32 ∷ 111 ∷ 108 ∷ 100 ∷ []
 resultText Duplicate tickets = 32 ∷ 100 ∷ 117 ∷ 112 ∷ []
 resultText (Refused why) tickets = 32 ∷ 114 ∷ 101 ∷ 102 ∷ 117 ∷ 115 ∷ 101 ∷ 100 ∷ spaced (numberOf why)
-
--- the tickets of an answer
-unfoldable pub handed : Answer → List ℕ
-handed a = take (a .count) (a .tickets)
 
 unfoldable pub answerText : Answer → List ℕ
 answerText a =

@@ -35,14 +35,13 @@ module _ (m : ℕ) (pos : 0 < m) where
   unfolding distance
   distance-remainder a b = ap (λ (x : ℕ). (b + (m - x)) % m) (mod-mod a m)
 
-  -- the distance of two remainders, where the numbers themselves are less than m apart
-  pub distance-apart : (a d : ℕ) → d < m → distance m (a % m) ((a + d) % m) ≡ d
-  distance-apart a d h =
-      sym (distance-only (a % m) ((a + d) % m) d h (mod-add-mod a m d ∙ sym (mod-eq-of-lt (mod-lt (a + d) pos))))
-
   -- what stands at a distance is that far
   pub distance-at : (a d : ℕ) → d < m → distance m a ((a + d) % m) ≡ d
   distance-at a d h = sym (distance-only a ((a + d) % m) d h (sym (mod-mod (a + d) m)))
+
+  -- the distance of two remainders, where the numbers themselves are less than m apart
+  pub distance-apart : (a d : ℕ) → d < m → distance m (a % m) ((a + d) % m) ≡ d
+  distance-apart a d h = distance-remainder a ((a + d) % m) ∙ distance-at a d h
 
   -- the number at a number's distance is that number
   pub at-distance : (a b : ℕ) → b < m → (a + distance m a b) % m ≡ b

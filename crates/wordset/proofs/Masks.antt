@@ -1,7 +1,7 @@
 -- What tests of whole words say of their members, at any width k.
 -- Assumes nothing.
 use mathlib.Core.Path.{_≡_, refl, sym, ap, ap₂, _∙_}
-use mathlib.Core.Bool.{Bool, true, false, not, _&&_, false≢true}
+use mathlib.Core.Bool.{Bool, true, false, not, _&&_, false≢true, and-false}
 use Prim.Native.Nat.{ℕ, zero, suc, _+_, _-_, _*_, _/_, _%_, _^_, _≤_, _<_, min, zero-le}
 use native.Mathlib.Nat.{mod-lt, pow-suc, div-add-mod', div-lt-iff-lt-mul, lt-of-le-of-lt}
 use native.Mathlib.Decide.{decLt}
@@ -101,12 +101,8 @@ module _ (k : ℕ) where
       go true false f = refl
       go false y f = refl
 
-      only-x : (x : Bool) → (x && false) ≡ false
-      only-x true = refl
-      only-x false = refl
-
       none : (j : ℕ) → j < k → member (bitAnd w (w * 2 % 2 ^ k)) j ≡ false
-      none zero l = member-and w (w * 2 % 2 ^ k) 0 ∙ ap (λ (b : Bool). member w 0 && b) (up-zero w l) ∙ only-x (member w 0)
+      none zero l = member-and w (w * 2 % 2 ^ k) 0 ∙ ap (λ (b : Bool). member w 0 && b) (up-zero w l) ∙ and-false (member w 0)
       none (suc j) l =
           member-and w (w * 2 % 2 ^ k) (suc j) ∙ ap (λ (b : Bool). member w (suc j) && b) (up w j l) ∙ go (member w (suc j)) (member w j) (f j l)
 
