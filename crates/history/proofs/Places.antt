@@ -14,7 +14,7 @@ use Rattle.wordset.proofs.Sets.{member-setOf}
 use Rattle.resequencer.specs.declared.Resequencer.{Resequencer}
 use Rattle.resequencer.specs.State.{isHeld, hasClock, ticketOf, ahead, numberAt}
 use Rattle.resequencer.proofs.Order.{number-lt, ahead-at, number-ahead}
-use Rattle.resequencer.proofs.Passing.{length-from, getD-from}
+use Rattle.lists.proofs.Lists.{length-from, getD-from}
 use Rattle.resequencer.specs.Events.{isPassed, remaining, advance, hold}
 
 abbrev pub heldAt : Resequencer → ℕ → Bool

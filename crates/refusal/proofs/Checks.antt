@@ -6,8 +6,8 @@ use Prim.Native.Nat.{ℕ}
 use native.Mathlib.Omega.{arith}
 use Rattle.refusal.specs.declared.Refusal.{Refusal}
 use Rattle.refusal.specs.declared.Verdict.{Verdict}
-use Rattle.refusal.specs.declared.Verdict.the-variants.{Done}
-use Rattle.refusal.specs.Numbers.{check}
+use Rattle.refusal.specs.declared.Verdict.the-variants.{Done, Refused}
+use Rattle.refusal.specs.Numbers.{check, andThen}
 
 -- the check held, and all after it
 pub check-done : (b : Bool) (why : Refusal) (rest : Verdict) → check b why rest ≡ Done → (b ≡ true) × (rest ≡ Done)
@@ -18,3 +18,8 @@ check-done false why rest e = let z : _≡_ {A = ℕ} 0 1 = cc in absurd (omega 
 pub both-true : (a b : Bool) → (a && b) ≡ true → (a ≡ true) × (b ≡ true)
 both-true true b e = (refl, e)
 both-true false b e = let z : _≡_ {A = ℕ} 0 1 = cc in absurd (omega arith)
+
+-- both lists of checks passed
+pub then-done : (v w : Verdict) → andThen v w ≡ Done → (v ≡ Done) × (w ≡ Done)
+then-done Done w e = (refl, e)
+then-done (Refused why) w e = let z : _≡_ {A = ℕ} 0 1 = cc in absurd (omega arith)

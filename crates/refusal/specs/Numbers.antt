@@ -36,3 +36,8 @@ verdictNumber (Refused why) = numberOf why
 abbrev pub check : Bool → Refusal → Verdict → Verdict
 check true why rest = rest
 check false why rest = Refused why
+
+-- one list of checks after another
+abbrev pub andThen : Verdict → Verdict → Verdict
+andThen Done rest = rest
+andThen (Refused why) rest = Refused why

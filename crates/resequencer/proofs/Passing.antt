@@ -11,6 +11,8 @@ use lib.Dec.{ltb, lit<}
 use lib.ListN.{length, getD, set, length-set}
 use lib.Seq.{ext-getD, getD-set-same, getD-set-other}
 use borrow.Author.Tests.{lt-ltb, le-ltb}
+use Rattle.lists.specs.Lists.{listFrom}
+use Rattle.lists.proofs.Lists.{length-from, getD-from, is-from}
 use Rattle.sequence.specs.declared.LinkNumber.{LinkNumber}
 use Rattle.sequence.specs.Modular.{distance}
 use Rattle.sequence.specs.Numbers.{link}
@@ -20,7 +22,7 @@ use Rattle.wordset.proofs.Sets.{setOf-same, member-setOf}
 use Rattle.wordset.proofs.Words.{mask}
 use Rattle.wordset.proofs.Masks.{member-ones}
 use Rattle.resequencer.specs.declared.Resequencer.{Resequencer}
-use Rattle.resequencer.specs.Events.{isPassed, remaining, listFrom, advance}
+use Rattle.resequencer.specs.Events.{isPassed, remaining, advance}
 use Rattle.resequencer.specs.Parts.{passedNumbers, ticketsLeft, hsnrLeft}
 
 -- ---- the mask
@@ -40,26 +42,6 @@ unfolding remaining passedNumbers
 difference-remaining s m w =
     setOf-same 64 (λ j. member w j && not (member (setOf 64 (isPassed s m)) j)) (λ j. member w j && not (isPassed s m j)) (λ j l.
     ap (λ (b : Bool). member w j && not b) (member-setOf 64 (isPassed s m) j l))
-
--- ---- lists told by their places
-
-pub length-from : (k n : ℕ) (f : ℕ → ℕ) → length (listFrom k n f) ≡ n
-unfolding listFrom
-length-from k zero f = refl
-length-from k (suc n) f = ap suc (length-from (suc k) n f)
-
-pub getD-from : (k n : ℕ) (f : ℕ → ℕ) (i : ℕ) → i < n → getD (listFrom k n f) i 0 ≡ f (k + i)
-unfolding listFrom
-getD-from k zero f i h = absurd (omega arith)
-getD-from k (suc n) f zero h = ap f (omega arith)
-getD-from k (suc n) f (suc i) h = getD-from (suc k) n f i (omega arith) ∙ ap f (omega arith)
-
--- a list of n places is told by what stands at each
-pub is-from : (n : ℕ) (l : List ℕ) (f : ℕ → ℕ) → length l ≡ n → ((i : ℕ) → i < n → getD l i 0 ≡ f i) → l ≡ listFrom 0 n f
-is-from n l f e g =
-    ext-getD 0 l (listFrom 0 n f) (e ∙ sym (length-from 0 n f)) (λ i h.
-    let b : i < n = omega arith in
-    g i b ∙ ap f (omega arith) ∙ sym (getD-from 0 n f i b))
 
 -- ---- the tickets left
 

@@ -11,7 +11,8 @@ use Rattle.resequencer.specs.declared.Resequencer.{Resequencer}
 use Rattle.resequencer.specs.declared.Outcome.the-variants.{Held, Old}
 use Rattle.resequencer.specs.declared.Answer.{Answer}
 use Rattle.resequencer.specs.State.{heldInWindow, clocksOnHeld, clocksApart, hsnrFurthest, meetsClock, ticketsOfHeld, goodOrder}
-use Rattle.resequencer.specs.Events.{plain, places, handOn, handed, remaining, listFrom, advance, heldTickets, startsClock, hold, runAfterNesn, handOnRun, takeArrival, arriveVerdict, arriveOf, passedByClock, takeClockEnd, clockEndVerdict, clockEndOf}
+use Rattle.lists.specs.Lists.{listFrom}
+use Rattle.resequencer.specs.Events.{plain, places, handOn, handed, remaining, advance, heldTickets, startsClock, hold, runAfterNesn, handOnRun, takeArrival, arriveVerdict, arriveOf, passedByClock, takeClockEnd, clockEndVerdict, clockEndOf}
 
 abbrev freshAt : ℕ → Resequencer
 freshAt n = record { nesn = link n; hsnr = link 0; held = 0; clocks = 0; tickets = replicate 64 0 }

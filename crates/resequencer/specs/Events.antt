@@ -10,6 +10,7 @@ use Rattle.refusal.specs.declared.Refusal.the-variants.{OutOfRange, NoClock, No
 use Rattle.refusal.specs.declared.Verdict.{Verdict}
 use Rattle.refusal.specs.declared.Verdict.the-variants.{Done, Refused}
 use Rattle.refusal.specs.Numbers.{numberOf, check}
+use Rattle.lists.specs.Lists.{listFrom}
 use Rattle.sequence.specs.Numbers.{link, inField}
 use Rattle.wordset.specs.Sets.{member, setOf, with, run}
 use Rattle.resequencer.specs.declared.Resequencer.{Resequencer}
@@ -51,11 +52,6 @@ isPassed s m n = ltb (ahead s n) m
 -- what of a set is not passed
 unfoldable pub remaining : Resequencer → ℕ → ℕ → ℕ
 remaining s m w = setOf 64 (λ n. member w n && not (isPassed s m n))
-
--- f of each number from k up, n of them
-unfoldable pub listFrom : ℕ → ℕ → (ℕ → ℕ) → List ℕ
-listFrom k zero f = []
-listFrom k (suc n) f = f k ∷ listFrom (suc k) n f
 
 -- the numbers passed are no longer held and their clocks stop; "when nothing is left held, HSNR becomes 0"
 unfoldable pub advance : Resequencer → ℕ → Resequencer

@@ -12,7 +12,7 @@ use Rattle.sequence.specs.declared.LinkNumber.{LinkNumber}
 use Rattle.sequence.specs.Numbers.{link, inField}
 use Rattle.wordset.specs.Sets.{member, setOf, difference}
 use Rattle.resequencer.specs.State.{implies}
-use Rattle.resequencer.specs.Events.{listFrom}
+use Rattle.lists.specs.Lists.{listFrom}
 
 -- ---- good order. h and c are the sets of held numbers and of clocks turned down by NESN, so that places are distances from NESN; e is the
 -- distance of HSNR

@@ -1,0 +1,3 @@
+-- The laws of writing and reading frames.
+pub mod Writing
+pub mod Reading

@@ -1,0 +1,36 @@
+-- What is known of a frame that is read.
+-- Assumes nothing.
+use mathlib.Core.Path.{_≡_}
+use mathlib.Core.Bool.{false}
+use mathlib.Core.List.{List}
+use Prim.Native.Nat.{ℕ, _+_, _<_, _≤_}
+use native.Mathlib.Numerals.{add-one}
+use lib.Dec.{eqb}
+use lib.ListN.{length, drop, getD}
+use lib.Seq.{drop-cons}
+use Rattle.refusal.specs.declared.Refusal.the-variants.{OutOfRange, Malformed}
+use Rattle.refusal.specs.declared.Verdict.the-variants.{Done}
+use Rattle.refusal.specs.Numbers.{check}
+use Rattle.refusal.proofs.Checks.{check-done}
+use Rattle.form.specs.declared.Form.{Form}
+use Rattle.form.specs.Forms.{segOf, formGood}
+use Rattle.form.specs.Segments.{wholeSegments}
+use Rattle.form.proofs.Forms.{segment-some}
+use Rattle.form.proofs.Segments.{whole-some}
+use Rattle.codec.specs.Frames.{allZero}
+use Rattle.codec.specs.Reading.{shapeVerdict}
+
+-- a zero byte is passed
+pub zero-step : (i : ℕ) (s : List ℕ) → i < length s → getD s i 0 ≡ 0 → allZero (drop i s) ≡ allZero (drop (i + 1) s)
+zero-step i s h e = rw (add-one, drop-cons s i 0 h, e)
+
+-- another one is met
+pub nonzero-step : (i : ℕ) (s : List ℕ) → i < length s → eqb (getD s i 0) 0 ≡ false → allZero (drop i s) ≡ false
+nonzero-step i s h e = rw (drop-cons s i 0 h, e)
+
+-- a frame of the right shape has at least one segment
+pub shape-some : (f : Form) (len : ℕ) → shapeVerdict f len ≡ Done → segOf f ≤ len
+unfolding shapeVerdict
+shape-some f len e =
+    let p = check-done (formGood f) OutOfRange (check (wholeSegments (segOf f) len) Malformed Done) e in
+    whole-some (segOf f) len (segment-some f) (check-done (wholeSegments (segOf f) len) Malformed Done (p .1) .0)

@@ -1,0 +1,99 @@
+-- `codec::put` meets its contract: the verdict tells which case of `putOf` and `putOutput` holds.
+-- Assumes nothing.
+use mathlib.Core.Path.{_≡_, refl, sym, ap, _∙_}
+use mathlib.Core.Bool.{Bool}
+use mathlib.Core.List.{List, _++_}
+use Prim.Native.Nat.{ℕ, _+_, _≤_}
+use native.Mathlib.Omega.{arith}
+use lib.Dec.{leb}
+use lib.ListN.{length, drop, replicate}
+use borrow.Author.Needs.{needs}
+use borrow.Author.Tests.{leb-true}
+use Rattle.refusal.specs.declared.Refusal.{Refusal}
+use Rattle.refusal.specs.declared.Refusal.the-variants.{OutOfRange, PacketTooLong, OutputTooShort}
+use Rattle.refusal.specs.declared.Verdict.{Verdict}
+use Rattle.refusal.specs.declared.Verdict.the-variants.{Done, Refused}
+use Rattle.refusal.specs.Numbers.{check}
+use Rattle.refusal.proofs.Checks.{check-done}
+use Rattle.fields.specs.Rows.{bytesOf}
+use Rattle.form.specs.declared.Form.{Form}
+use Rattle.form.specs.Forms.{segOf, mostOf, formGood}
+use Rattle.form.specs.Segments.{padding, frameLength}
+use Rattle.codec.specs.declared.Head.{Head}
+use Rattle.codec.specs.declared.Written.the-variants.{Done as WrittenDone, Refused as NotWritten}
+use Rattle.codec.specs.Frames.{framed}
+use Rattle.codec.specs.Writing.{writeVerdict, putVerdict, putOf, putOutput, writtenBy, outputBy}
+use Rattle.fields.proofs.Rows.{bytes-length}
+use Rattle.codec.proofs.Writing.{framed-length}
+use Rattle.codec.proofs.put.Statement.{statement}
+use Rattle.codec.proofs.put.Tie as tie
+
+-- a packet that passes the checks has room
+write-room : (f : Form) (fits : Bool) (n room : ℕ) → writeVerdict f fits n room ≡ Done → frameLength (segOf f) n ≤ room
+unfolding writeVerdict
+write-room f fits n room e =
+    let short = check (leb (frameLength (segOf f) n) room) OutputTooShort Done in
+    let long = check (leb n (mostOf f)) PacketTooLong short in
+    let p = check-done fits OutOfRange long (check-done (formGood f) OutOfRange (check fits OutOfRange long) e .1) .1 in
+    let q = check-done (leb (frameLength (segOf f) n) room) OutputTooShort Done (check-done (leb n (mostOf f)) PacketTooLong short p .1) in
+    leb-true (frameLength (segOf f) n) room (q .0)
+
+module _ (form : Form) (head : Head) (user out : List ℕ) where
+  -- written, with the padding that the form tells
+  done : (pad : ℕ) (last : List ℕ) → putVerdict form head (length user) (length out) ≡ Done → pad ≡ padding (segOf form) (head .size + length user)
+      → last ≡ (bytesOf (head .size) (head .number) ++ (user ++ replicate pad 0)) ++ drop (head .size + length user + pad) out
+      → (WrittenDone (head .size + length user + pad) ≡ putOf form head (length user) (length out)) × (last ≡ putOutput form head user out)
+  unfolding putOf putOutput framed
+  done pad last ok e el =
+      let h = bytesOf (head .size) (head .number) in
+      let n = head .size + length user in
+      let frame = framed (segOf form) h user in
+      let size : length h ≡ head .size = bytes-length (head .size) (head .number) in
+      let same : h ++ (user ++ replicate pad 0) ≡ frame =
+      ap (λ (p : ℕ). h ++ (user ++ replicate p 0)) (e ∙ ap (λ (k : ℕ). padding (segOf form) (k + length user)) (sym size)) in
+      let long : n + pad ≡ length frame =
+      ap (λ (p : ℕ). n + p) e ∙ ap (λ (k : ℕ). k + length user + padding (segOf form) (k + length user)) (sym size) ∙ sym (framed-length (segOf form) h user) in (
+        ap (λ (p : ℕ). WrittenDone (n + p)) e ∙ sym (ap (λ (v : Verdict). writtenBy v (n + padding (segOf form) n)) ok),
+        el ∙ ap (λ (l : List ℕ). l ++ drop (n + pad) out) same ∙ ap (λ (k : ℕ). frame ++ drop k out) long ∙ sym (ap (λ (v : Verdict). outputBy v frame out) ok),
+      )
+
+  -- refused, and nothing written
+  not-done : (why : Refusal) → putVerdict form head (length user) (length out) ≡ Refused why
+      → (NotWritten why ≡ putOf form head (length user) (length out)) × (out ≡ putOutput form head user out)
+  unfolding putOf putOutput
+  not-done why e = rw e (refl, refl)
+
+put-frame-requires : tie.Need-put-frame-requires
+put-frame-requires c κs =
+    let checked = c .before .before .before .before in
+    let a = checked .before .before .before .before .args in
+    let n = a .head .size + length (a .user .now) in
+    omega (arith, write-room (a .form) (a .head .fits) n (length (a .out .now)) (sym (checked .check-put .ensures) ∙ c .before .before .enum-told .given .1), c .before .padding .ensures .0)
+
+returns : tie.Need-returns
+returns c =
+    let checked = c .before .before .before .before .before .before .before in
+    let a = checked .before .before .before .before .args in
+    done (a .form) (a .head) (a .user .now) (a .out .now) (c .before .before .before .before .padding .result) (c .before .before .put-frame .last .0)
+    (sym (checked .check-put .ensures) ∙ c .before .before .before .before .before .enum-told .given .1) (c .before .before .before .before .padding .ensures .0) (c .before .before .put-frame .ensures)
+
+returns-2 : tie.Need-returns-2
+returns-2 c =
+    let a = c .before .before .before .before .before .before .before .args in
+    not-done (a .form) (a .head) (a .user .now) (a .out .now) _ (sym (c .before .before .before .check-put .ensures) ∙ c .before .verdict .given .1)
+
+pub put-spec : {M : Type 1} → statement M
+put-spec =
+    tie.close
+    (tie.spec
+    (λ c. search needs)
+    (λ c. search needs)
+    (λ c κs. search needs)
+    (λ c. search needs)
+    (λ c κs. search needs)
+    put-frame-requires
+    (λ c. search needs)
+    (λ c. search needs)
+    (λ c. search needs)
+    returns
+    returns-2)

@@ -1,0 +1,4 @@
+-- What is proved of rows and headers.
+pub mod Rows
+pub mod Headers
+pub mod Tags

@@ -1,0 +1,3 @@
+-- What is proved of forms and segments.
+pub mod Segments
+pub mod Forms

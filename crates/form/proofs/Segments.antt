@@ -1,0 +1,103 @@
+-- How n bytes fill segments, over any segment size.
+-- Assumes nothing.
+use mathlib.Core.Path.{_≡_, refl, sym, ap, _∙_}
+use mathlib.Core.Bool.{Bool, true, false}
+use Prim.Native.Nat.{ℕ, zero, suc, _+_, _-_, _*_, _/_, _%_, _<_, _≤_}
+use native.Mathlib.Nat.{mod-lt, mod-self, mod-eq-of-lt, div-add-mod', mul-add-mod-self-right, mul-mod-left, zero-mul, suc-mul}
+use native.Mathlib.Omega.{arith}
+use lib.Dec.{leb, eqb}
+use borrow.Author.Tests.{leb-true, eqb-true, eqb-false}
+use Rattle.refusal.proofs.Checks.{both-true}
+use Rattle.form.specs.Segments.{padding, lastUsed, frameLength, wholeSegments}
+
+pub padding-below : (seg n : ℕ) → 1 ≤ seg → padding seg n < seg
+unfolding padding
+padding-below seg n some = mod-lt (seg - n % seg) some
+
+-- LV is 1 to the segment size
+pub used-range : (seg n : ℕ) → 1 ≤ seg → (1 ≤ lastUsed seg n) × (lastUsed seg n ≤ seg)
+unfolding lastUsed
+used-range seg n some = omega (arith, padding-below seg n some)
+
+-- the padding of r bytes past full segments
+padding-none : (seg n : ℕ) → 1 ≤ seg → n % seg ≡ 0 → padding seg n ≡ 0
+unfolding padding
+padding-none seg n some e =
+    let z : seg - n % seg ≡ seg = omega (arith, e) in
+    ap (λ (x : ℕ). x % seg) z ∙ mod-self seg
+
+padding-some : (seg n : ℕ) → 1 ≤ seg → 1 ≤ n % seg → padding seg n ≡ seg - n % seg
+unfolding padding
+padding-some seg n some e = mod-eq-of-lt (omega (arith, mod-lt n some))
+
+-- a frame is so many segments
+pub segments : (seg n : ℕ) → 1 ≤ seg → (q : ℕ) × (frameLength seg n ≡ q * seg)
+segments seg n some = go (eqb (n % seg) 0) refl
+  where
+    go : (b : Bool) → eqb (n % seg) 0 ≡ b → (q : ℕ) × (frameLength seg n ≡ q * seg)
+    go true e = (n / seg, omega (arith, eqb-true (n % seg) 0 e, padding-none seg n some (eqb-true (n % seg) 0 e), div-add-mod' n seg))
+    go false e =
+        let ne : n % seg ≡ 0 → ⊥ = eqb-false (n % seg) 0 e in
+        let pos : 1 ≤ n % seg = omega (arith, ne) in
+        (suc (n / seg), omega (arith, padding-some seg n some pos, div-add-mod' n seg, suc-mul (n / seg) seg, mod-lt n some))
+
+pub frame-whole : (seg n : ℕ) → 1 ≤ seg → frameLength seg n % seg ≡ 0
+frame-whole seg n some = let s = segments seg n some in ap (λ (x : ℕ). x % seg) (s .1) ∙ mul-mod-left (s .0) seg
+
+-- a packet of at least one byte has at least one segment, and its length is that of the full ones and the bytes used in the last
+pub length-less : (seg n : ℕ) → 1 ≤ seg → 1 ≤ n → (seg ≤ frameLength seg n) × (frameLength seg n - seg + lastUsed seg n ≡ n)
+unfolding lastUsed
+length-less seg n some more =
+    let s = segments seg n some in
+    let full : seg ≤ frameLength seg n = go (s .0) (s .1) in
+    (full, omega (arith, full, padding-below seg n some))
+  where
+    go : (q : ℕ) → frameLength seg n ≡ q * seg → seg ≤ frameLength seg n
+    go zero e = absurd (omega (arith, e, zero-mul seg))
+    go (suc q) e = omega (arith, e, suc-mul q seg)
+
+-- len bytes of whole segments with u used in the last
+module _ (seg len u : ℕ) (multiple : len % seg ≡ 0) (more : 1 ≤ len) (low : 1 ≤ u) (high : u ≤ seg) where
+  pub at-least-one : (q : ℕ) × (len ≡ suc q * seg)
+  at-least-one = go (len / seg) (sym (div-add-mod' len seg) ∙ omega (arith, multiple))
+    where
+      go : (q : ℕ) → len ≡ q * seg → (p : ℕ) × (len ≡ suc p * seg)
+      go zero e = absurd (omega (arith, e, zero-mul seg))
+      go (suc q) e = (q, e)
+
+  rest : (len - seg + u) % seg ≡ u % seg
+  rest =
+      let q = at-least-one .0 in
+      let e : len - seg + u ≡ q * seg + u = omega (arith, at-least-one .1, suc-mul q seg) in
+      ap (λ (x : ℕ). x % seg) e ∙ mul-add-mod-self-right q seg u
+
+  pub padding-back : padding seg (len - seg + u) ≡ seg - u
+  unfolding padding
+  padding-back = ap (λ (x : ℕ). (seg - x) % seg) rest ∙ go (eqb u seg) refl
+    where
+      go : (b : Bool) → eqb u seg ≡ b → (seg - u % seg) % seg ≡ seg - u
+      go true e =
+          let s : u ≡ seg = eqb-true u seg e in
+          let z : u % seg ≡ 0 = ap (λ (x : ℕ). x % seg) s ∙ mod-self seg in
+          let t : seg - u % seg ≡ seg = omega (arith, z) in
+          ap (λ (x : ℕ). x % seg) t ∙ mod-self seg ∙ omega (arith, s)
+      go false e =
+          let ne : u ≡ seg → ⊥ = eqb-false u seg e in
+          let lt : u < seg = omega (arith, ne) in
+          let z : seg - u % seg ≡ seg - u = ap (λ (x : ℕ). seg - x) (mod-eq-of-lt lt) in
+          ap (λ (x : ℕ). x % seg) z ∙ mod-eq-of-lt (omega arith)
+
+  pub used-back : lastUsed seg (len - seg + u) ≡ u
+  unfolding lastUsed
+  used-back = omega (arith, padding-back)
+
+  pub length-back : frameLength seg (len - seg + u) ≡ len
+  length-back = omega (arith, padding-back, at-least-one .1, suc-mul (at-least-one .0) seg)
+
+-- whole segments are at least one
+pub whole-some : (seg len : ℕ) → 1 ≤ seg → wholeSegments seg len ≡ true → seg ≤ len
+unfolding wholeSegments
+whole-some seg len some w =
+    let p = both-true (leb 1 len) (eqb (len % seg) 0) w in
+    let q = at-least-one seg len seg (eqb-true (len % seg) 0 (p .1)) (leb-true 1 len (p .0)) some (omega arith) in
+    omega (arith, q .1, suc-mul (q .0) seg)

@@ -1,0 +1,25 @@
+-- The forms: document 01, "Forms and frames", first paragraph.
+-- Assumes nothing.
+use mathlib.Core.Bool.{Bool, true, _&&_}
+use Prim.Native.Nat.{ℕ, _*_}
+use lib.Dec.{leb}
+use Rattle.form.specs.declared.Form.{Form}
+use Rattle.form.specs.declared.Form.the-variants.{ShortUplink, LongUplink, LongDownlink}
+
+-- "Short uplink: segments of 7 bytes .. Long uplink: segments of 10 .. Long downlink with n segments: segments of 10"
+abbrev pub segOf : Form → ℕ
+segOf ShortUplink = 7
+segOf LongUplink = 10
+segOf (LongDownlink n) = 10
+
+-- "packet at most 28 .. at most 152 .. at most 10n"
+abbrev pub mostOf : Form → ℕ
+mostOf ShortUplink = 28
+mostOf LongUplink = 152
+mostOf (LongDownlink n) = 10 * n
+
+-- refusal 1: "downlink segments not 1 to 16"
+abbrev pub formGood : Form → Bool
+formGood ShortUplink = true
+formGood LongUplink = true
+formGood (LongDownlink n) = leb 1 n && leb n 16

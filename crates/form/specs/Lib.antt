@@ -1,0 +1,3 @@
+-- What the contracts of `form` cite.
+pub mod Forms
+pub mod Segments

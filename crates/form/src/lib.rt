@@ -1,0 +1,74 @@
+// The forms of a frame, and how a packet's bytes fill their segments (document 01, "Forms and frames").
+ghost use mathlib.Core.Path.{_≡_};
+ghost use Prim.Native.Nat.{_≤_};
+ghost use Rattle.form.specs.Forms.{segOf, mostOf, formGood};
+ghost use Rattle.form.specs.Segments.{padding, lastUsed, wholeSegments};
+
+// A form.
+pub enum Form {
+    ShortUplink,
+    LongUplink,
+    // The most segments that a frame may have, 1 to 16.
+    LongDownlink(u8),
+}
+
+impl Form {
+    // Whether there is such a form: a downlink frame has 1 to 16 segments.
+    pub fn is_good(self) -> bool
+        ensures { λ r. ⌜ r ≡ formGood self ⌝ }
+    {
+        match self {
+            Form::ShortUplink => true,
+            Form::LongUplink => true,
+            Form::LongDownlink(n) => 1 <= n && n <= 16,
+        }
+    }
+
+    // The bytes of a segment.
+    pub fn segment(self) -> usize
+        ensures { λ r. ⌜ r ≡ segOf self ⌝ }
+        ensures some { λ r. ⌜ (7 ≤ r) × (r ≤ 10) ⌝ }
+    {
+        match self {
+            Form::ShortUplink => 7,
+            Form::LongUplink => 10,
+            Form::LongDownlink(_n) => 10,
+        }
+    }
+
+    // The bytes of the largest packet.
+    pub fn most(self) -> usize
+        ensures { λ r. ⌜ r ≡ mostOf self ⌝ }
+    {
+        match self {
+            Form::ShortUplink => 28,
+            Form::LongUplink => 152,
+            Form::LongDownlink(n) => 10 * n as usize,
+        }
+    }
+
+    // The zero bytes that fill n bytes up to whole segments.
+    pub fn padding(self, n: usize) -> usize
+        ensures { λ r. ⌜ r ≡ padding (segOf self) n ⌝ }
+        ensures few { λ r. ⌜ r ≤ 9 ⌝ }
+    {
+        let segment = self.segment();
+        (segment - n % segment) % segment
+    }
+
+    // LV of a packet of n bytes: those used in its last segment.
+    pub fn last_used(self, n: usize) -> u8
+        ensures { λ r. ⌜ r ≡ lastUsed (segOf self) n ⌝ }
+        ensures few { λ r. ⌜ (1 ≤ r) × (r ≤ 10) ⌝ }
+    {
+        let used = self.segment() - self.padding(n);
+        used as u8
+    }
+
+    // Whether so many bytes are a whole number of segments, at least one.
+    pub fn is_whole(self, len: usize) -> bool
+        ensures { λ r. ⌜ r ≡ wholeSegments (segOf self) len ⌝ }
+    {
+        1 <= len && len % self.segment() == 0
+    }
+}

@@ -1,0 +1,13 @@
+-- `frame::found_if` meets its contract: by the test.
+-- Assumes nothing.
+use Rattle.frame.proofs.found_if.Statement.{statement}
+use Rattle.frame.proofs.found_if.Tie as tie
+
+returns : tie.Need-returns
+returns c = simp (c .if1 .taken)
+
+returns-2 : tie.Need-returns-2
+returns-2 c = simp (c .if1 .left)
+
+pub found-if-spec : {M : Type 1} → statement M
+found-if-spec = tie.close (tie.spec returns returns-2)

@@ -1,0 +1,13 @@
+-- `frame_cases::write` meets its contract: the part lent has as many bytes as there is room.
+-- Assumes nothing.
+use mathlib.Core.Path.{sym}
+use lib.Seq.{length-take-le}
+use borrow.Author.Needs.{needs}
+use Rattle.frame_cases.proofs.write.Statement.{statement}
+use Rattle.frame_cases.proofs.write.Tie as tie
+
+slice-aggregate-write-into : tie.Need-slice-aggregate-write-into
+slice-aggregate-write-into c = sym (length-take-le _ _ (search needs))
+
+pub write-spec : {M : Type 1} → statement M
+write-spec = tie.close (tie.spec (λ c. search needs) slice-aggregate-write-into (λ c κs. search needs) (λ c. search needs))

@@ -1,0 +1,2 @@
+-- What is proved of lists.
+pub mod Lists

@@ -1,0 +1,2 @@
+-- What the definitions of several crates share.
+pub mod Lists

@@ -1,0 +1,2 @@
+-- The claims about frames written and read.
+pub mod ReadBack
