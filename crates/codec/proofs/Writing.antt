@@ -35,7 +35,7 @@ copy-step d at s j v hd hs e =
     ap (set (paste d at s j) (at + j)) e ∙ paste-suc d at s j 0 hd hs ∙ ap (paste d at s) (sym (add-one j))
 
 -- s is copied just after p
-paste-after : (p o s : List ℕ) (at : ℕ) → length p ≡ at → paste (p ++ drop at o) at s (length s) ≡ (p ++ s) ++ drop (at + length s) o
+pub paste-after : (p o s : List ℕ) (at : ℕ) → length p ≡ at → paste (p ++ drop at o) at s (length s) ≡ (p ++ s) ++ drop (at + length s) o
 paste-after p o s at e =
     rw (take-at p (drop at o) at e, take-length s, ← drop-drop (length s) at (p ++ drop at o), drop-at p (drop at o) at e, drop-drop (length s) at o)
 

@@ -1,2 +1,3 @@
 -- What is proved of lists.
 pub mod Lists
+pub mod Frames

@@ -1,2 +1,3 @@
 -- What the definitions of several crates share.
 pub mod Lists
+pub mod Frames

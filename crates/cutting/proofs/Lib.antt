@@ -1,0 +1,5 @@
+-- The laws of cutting.
+
+pub mod Sizes
+pub mod Written
+pub mod Steps

@@ -1,0 +1,3 @@
+-- What the contracts of `cutting` cite.
+pub mod Cutting
+pub mod Parts

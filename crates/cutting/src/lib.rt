@@ -1,0 +1,241 @@
+// A message cut into DATA frames (document 01, "Cutting and joining").
+ghost use mathlib.Core.Path.{_≡_};
+ghost use mathlib.Core.Bool.{true, false};
+ghost use Prim.Native.Nat.{_+_, _*_, _≤_};
+ghost use lib.ListN.{length, set};
+ghost use Rattle.lists.specs.Frames.{bytesIn, lengthsOf};
+ghost use Rattle.lists.specs.Lists.{over};
+ghost use Rattle.form.specs.Forms.{segOf, formGood};
+ghost use Rattle.form.specs.Segments.{frameLength};
+ghost use Rattle.frame.specs.Writing.{fits, frameOf};
+ghost use Rattle.cutting.specs.Cutting.{cutNumber, shareOf, fullFrames, dataOf, nextStart, framesOf, cutVerdict, cutBy, cutOf, cutOutput, cutLengths};
+ghost use Rattle.cutting.specs.Parts.{splice, roomFor, Room, Ready};
+use form::Form;
+use frame::Data;
+use frame::Packet;
+use refusal::Refusal;
+use refusal::Verdict;
+use sequence::LinkNumber;
+use sequence::PacketNumber;
+
+// What the first frame of a message has: SN and PS count up from here, PR and CH are the same on all frames.
+pub struct Start {
+    pub sn: LinkNumber,
+    pub ps: PacketNumber,
+    pub pr: PacketNumber,
+    // channel, 0 to 15
+    pub ch: u8,
+}
+
+// A message was cut into so many frames, of so many bytes in all; or why it was not.
+pub enum Cut {
+    Frames(usize, usize),
+    Refused(Refusal),
+}
+
+impl Cut {
+    // The number of document 01's table: 0 where the message was cut.
+    pub fn number(self) -> u8
+        ensures { λ r. ⌜ r ≡ cutNumber self ⌝ }
+    {
+        match self {
+            Cut::Frames(_count, _bytes) => 0,
+            Cut::Refused(why) => why.number(),
+        }
+    }
+}
+
+// ---- one frame's numbers, and the next one's
+
+impl Start {
+    // Whether every number fits its field.
+    fn fits(self) -> bool
+        ensures { λ r. ⌜ r ≡ fits (dataOf self false) 0 ⌝ }
+    {
+        (self.sn.0 < 64) & (self.ps.0 < 16) & (self.pr.0 < 16) & (self.ch < 16)
+    }
+
+    // The packet with these numbers; M says whether more of the message follows.
+    fn packet(self, more: bool) -> Packet
+        ensures { λ r. ⌜ r ≡ dataOf self more ⌝ }
+    {
+        let sn = self.sn;
+        let ps = self.ps;
+        let pr = self.pr;
+        Packet::Data(Data {
+            m: more,
+            sn: sn,
+            ps: ps,
+            pr: pr,
+            ch: self.ch,
+        })
+    }
+
+    // What the frame after this one has.
+    fn next(self) -> Start
+        ensures { λ r. ⌜ r ≡ nextStart self ⌝ }
+    {
+        let sn = self.sn;
+        let ps = self.ps;
+        let pr = self.pr;
+        Start {
+            sn: sn.next(),
+            ps: ps.next(),
+            pr: pr,
+            ch: self.ch,
+        }
+    }
+}
+
+// ---- how many frames there are, and how long they are: all by the message's length, before anything is written
+
+// The user data that a full frame carries: the largest packet less its header.
+fn share_of(form: Form) -> usize
+    requires { ⌜ formGood form ≡ true ⌝ }
+    ensures { λ r. ⌜ r ≡ shareOf form ⌝ }
+    ensures range { λ r. ⌜ (7 ≤ r) × (r ≤ 157) ⌝ }
+{
+    form.most() - 3
+}
+
+// The frames before the last, for n bytes.
+fn full_frames(share: usize, n: usize) -> usize
+    requires { ⌜ 1 ≤ share ⌝ }
+    ensures { λ r. ⌜ r ≡ fullFrames share n ⌝ }
+    ensures few { λ r. ⌜ (r ≤ n) × (r * share ≤ n) ⌝ }
+{
+    if n == 0 {
+        return 0;
+    }
+    (n - 1) / share
+}
+
+// The length of a frame with n bytes of user data.
+fn frame_length(form: Form, n: usize) -> usize
+    requires { ⌜ n ≤ 4096 ⌝ }
+    ensures { λ r. ⌜ r ≡ frameLength (segOf form) (3 + n) ⌝ }
+    ensures few { λ r. ⌜ r ≤ 4108 ⌝ }
+{
+    let packet = 3 + n;
+    packet + form.padding(packet)
+}
+
+// The bytes that the frames of a message of n bytes fill.
+fn needed(form: Form, n: usize) -> usize
+    requires { ⌜ (formGood form ≡ true) × (n ≤ 4096) ⌝ }
+    ensures { λ r. ⌜ r ≡ roomFor form (fullFrames (shareOf form) n) n ⌝ }
+{
+    let share = share_of(form);
+    let full = full_frames(share, n);
+    let last = n - full * share;
+    full * frame_length(form, share) + frame_length(form, last)
+}
+
+// Whether the message may be cut, checked in the order 1, 4, 5.
+fn check_cut(form: Form, start: Start, message: &[u8], room: usize, places: usize) -> Verdict
+    ensures { λ r. ⌜ r ≡ cutVerdict form start (now (message .entry)) room places ⌝ }
+{
+    let n = message.len();
+    if form.is_good() && start.fits() {
+        if n <= 4096 {
+            if needed(form, n) <= room && full_frames(share_of(form), n) < places {
+                Verdict::Done
+            } else {
+                Verdict::Refused(Refusal::OutputTooShort)
+            }
+        } else {
+            Verdict::Refused(Refusal::MessageTooLong)
+        }
+    } else {
+        Verdict::Refused(Refusal::OutOfRange)
+    }
+}
+
+// ---- writing
+
+// Writes one frame into its part of the output, from index at, and its length to place i of the list; tells where the frame ends.
+fn put_one(
+    form: Form,
+    packet: Packet,
+    user: &[u8],
+    out: &mut [u8],
+    at: usize,
+    lengths: &mut [usize],
+    i: usize,
+) -> usize
+    requires { ⌜ Ready form packet (length (now user)) at (length (now out)) i (length (now lengths)) ⌝ }
+    ensures { λ r. ⌜ r ≡ at + length (frameOf form packet (now (user .entry))) ⌝ }
+    ensures written { λ _. ⌜ now (out .exit) ≡ splice at (frameOf form packet (now (user .entry))) (now (out .entry)) ⌝ }
+    ensures listed { λ _. ⌜ now (lengths .exit) ≡ set (now (lengths .entry)) i (length (frameOf form packet (now (user .entry)))) ⌝ }
+{
+    let len = frame_length(form, user.len());
+    let end = at + len;
+    frame::write_frame(form, packet, user, &mut out[at..end]);
+    lengths[i] = len;
+    end
+}
+
+// Writes all frames of a message that may be cut.
+fn put_frames(
+    form: Form,
+    start: Start,
+    message: &[u8],
+    out: &mut [u8],
+    lengths: &mut [usize],
+) -> Cut
+    requires { ⌜ Room form start (now message) (length (now out)) (length (now lengths)) ⌝ }
+    ensures { λ r. ⌜ r ≡ cutBy Verdict.Done (framesOf form start (now (message .entry))) ⌝ }
+    ensures written { λ _. ⌜ now (out .exit) ≡ over (bytesIn (framesOf form start (now (message .entry)))) (now (out .entry)) ⌝ }
+    ensures listed { λ _. ⌜ now (lengths .exit) ≡ over (lengthsOf (framesOf form start (now (message .entry)))) (now (lengths .entry)) ⌝ }
+{
+    let share = share_of(form);
+    let full = full_frames(share, message.len());
+    let mut next = start;
+    let mut from = 0;
+    let mut at = 0;
+    let mut i = 0;
+    while i < full {
+        let to = from + share;
+        at = put_one(
+            form,
+            next.packet(true),
+            &message[from..to],
+            out,
+            at,
+            lengths,
+            i,
+        );
+        next = next.next();
+        from = to;
+        i = i + 1;
+    }
+    let end = put_one(
+        form,
+        next.packet(false),
+        &message[from..],
+        out,
+        at,
+        lengths,
+        i,
+    );
+    Cut::Frames(i + 1, end)
+}
+
+// Cuts a message into DATA frames: each is written straight into its part of the lent output, and its length into the lent list.
+pub fn cut_message(
+    form: Form,
+    start: Start,
+    message: &[u8],
+    out: &mut [u8],
+    lengths: &mut [usize],
+) -> Cut
+    ensures { λ r. ⌜ r ≡ cutOf form start (now (message .entry)) (length (now (out .entry))) (length (now (lengths .entry))) ⌝ }
+    ensures written { λ _. ⌜ now (out .exit) ≡ cutOutput form start (now (message .entry)) (now (out .entry)) (length (now (lengths .entry))) ⌝ }
+    ensures listed { λ _. ⌜ now (lengths .exit) ≡ cutLengths form start (now (message .entry)) (length (now (out .entry))) (now (lengths .entry)) ⌝ }
+{
+    let verdict = check_cut(form, start, message, out.len(), lengths.len());
+    match verdict {
+        Verdict::Done => put_frames(form, start, message, out, lengths),
+        Verdict::Refused(why) => Cut::Refused(why),
+    }
+}

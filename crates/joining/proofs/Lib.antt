@@ -1,0 +1,4 @@
+-- The laws of joining.
+pub mod Places
+pub mod Judging
+pub mod Copying

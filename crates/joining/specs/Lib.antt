@@ -1,0 +1,3 @@
+-- What the contracts of `joining` cite.
+pub mod Joining
+pub mod Parts

@@ -1,0 +1,8 @@
+-- What is proved of messages cut and joined.
+pub mod Parts
+pub mod Starts
+pub mod Shares
+pub mod Cutting
+pub mod Joining
+pub mod Again
+pub mod Claims

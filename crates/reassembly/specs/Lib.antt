@@ -1,0 +1,2 @@
+-- The claims about messages cut and joined.
+pub mod Claims
