@@ -1,0 +1,59 @@
+-- The choice of interrogator: document 01, "Interrogators and ground addresses", second paragraph. A set of codes is a word of 16 places.
+-- Assumes nothing.
+use mathlib.Core.Bool.{Bool, true, not, cond}
+use Prim.Native.Nat.{ℕ}
+use lib.Dec.{ltb, eqb}
+use Rattle.refusal.specs.declared.Refusal.the-variants.{OutOfRange, NoInterrogator, AllFailed}
+use Rattle.refusal.specs.declared.Verdict.{Verdict}
+use Rattle.refusal.specs.declared.Verdict.the-variants.{Done, Refused}
+use Rattle.refusal.specs.Numbers.{numberOf, check}
+use Rattle.wordset.specs.Sets.{member, difference, lowest}
+use Rattle.interrogator.specs.declared.LastUsed.{LastUsed}
+use Rattle.interrogator.specs.declared.LastUsed.the-variants.{Code, Nothing as NoCode}
+use Rattle.interrogator.specs.declared.Choice.{Choice}
+use Rattle.interrogator.specs.declared.Choice.the-variants.{Chosen, Refused as NotChosen}
+use Rattle.interrogator.specs.declared.Clearing.{Clearing}
+use Rattle.interrogator.specs.declared.Clearing.the-variants.{Codes, Nothing as NoCodes}
+
+-- the refusal number of a choice, and the code, 0 where there is none
+abbrev pub choiceNumber : Choice → ℕ
+choiceNumber (Chosen code) = 0
+choiceNumber (NotChosen why) = numberOf why
+
+abbrev pub choiceCode : Choice → ℕ
+choiceCode (Chosen code) = code
+choiceCode (NotChosen why) = 0
+
+-- the codes present that have not failed
+abbrev pub usable : ℕ → ℕ → ℕ
+usable codes failed = difference 16 codes failed
+
+-- a last-used code is one of the 16
+abbrev pub lastGood : LastUsed → Bool
+lastGood (Code c) = ltb c 16
+lastGood NoCode = true
+
+-- "8 if the set is empty, 15 if all present have failed"; a last-used code over 15 is 1, before both
+unfoldable pub chooseVerdict : ℕ → LastUsed → ℕ → Verdict
+chooseVerdict codes last failed =
+    check (lastGood last) OutOfRange
+    (check (not (eqb codes 0)) NoInterrogator
+    (check (not (eqb (usable codes failed) 0)) AllFailed
+    Done))
+
+-- "the last-used if present for that address and not failed; else the lowest code present and not failed"
+abbrev pub chosenCode : ℕ → LastUsed → ℕ
+chosenCode usables (Code c) = cond (member usables c) c (lowest 16 usables)
+chosenCode usables NoCode = lowest 16 usables
+
+abbrev pub chooseBy : Verdict → ℕ → Choice
+chooseBy Done code = Chosen code
+chooseBy (Refused why) code = NotChosen why
+
+unfoldable pub chooseOf : ℕ → LastUsed → ℕ → Choice
+chooseOf codes last failed = chooseBy (chooseVerdict codes last failed) (chosenCode (usable codes failed) last)
+
+-- "For 8 on a call the clearing codes are CC 141, DC 162"
+abbrev pub clearingOf : Choice → Clearing
+clearingOf (Chosen code) = NoCodes
+clearingOf (NotChosen why) = cond (eqb (numberOf why) 8) (Codes 141 162) NoCodes

@@ -1,0 +1,19 @@
+-- `route::note` meets its contract: the test tells which case of `noted` holds.
+-- Assumes nothing.
+use borrow.Author.Needs.{needs}
+use Rattle.route.specs.Parts.{noted}
+use Rattle.route.proofs.note.Statement.{statement}
+use Rattle.route.proofs.note.Tie as tie
+
+returns : tie.Need-returns
+unfolding noted
+returns c = simp (c .before .before .if1 .taken)
+
+returns-2 : tie.Need-returns-2
+unfolding noted
+returns-2 c = simp (c .if1 .left)
+
+pub note-spec : {M : Type 1} → statement M
+note-spec =
+    tie.close
+    (tie.spec (λ c. search needs) (λ c. search needs) (λ c. search needs) (λ c. search needs) returns returns-2)
