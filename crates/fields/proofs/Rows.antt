@@ -6,7 +6,7 @@ use Prim.Native.Nat.{ℕ, zero, suc, _+_, _*_, _/_, _%_, _^_, _<_, _≤_}
 use native.Mathlib.Nat.{add-mul, mul-assoc, add-assoc, zero-mul, zero-add, mul-one, mod-lt, mod-eq-of-lt, add-zero}
 use native.Mathlib.Omega.{arith}
 use lib.Arith.{digits-lt}
-use lib.ListN.{length, take, getD, length-replicate}
+use lib.ListN.{length, take, length-replicate}
 use lib.Pow.{pow-pos, pow-add, mod-pow-add, high, low}
 use Rattle.fields.specs.Rows.{total, packAfter, pack, unpack, InRange, eights, bytesOf, AreBytes}
 use Rattle.fields.specs.Law.{RowLaw}
@@ -87,10 +87,6 @@ pub bytes-range : (k : ℕ) (bs : List ℕ) → k ≤ length bs → AreBytes bs 
 bytes-range zero bs h b = tt
 bytes-range (suc k) [] h b = absurd (omega arith)
 bytes-range (suc k) (x ∷ xs) h b = (b .0, bytes-range k xs (omega arith) (b .1))
-
--- the first byte of a number
-pub first-byte : (k n : ℕ) (rest : List ℕ) → getD (bytesOf (suc k) n ++ rest) 0 0 ≡ n / 2 ^ total (eights k) % 2 ^ 8
-first-byte k n rest = refl
 
 -- ---- one row after another
 

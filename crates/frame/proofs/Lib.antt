@@ -1,4 +1,3 @@
 -- What is proved of frames.
 pub mod KindLaws
 pub mod SeenLaws
-pub mod Values

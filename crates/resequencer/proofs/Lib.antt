@@ -6,5 +6,4 @@ pub mod Passing
 pub mod Handing
 pub mod Stray
 pub mod Deciding
-pub mod Values
 pub mod Refusing

@@ -4,4 +4,3 @@ mod Joining
 mod Reporting
 mod Cases
 pub mod Meaning
-pub mod Values

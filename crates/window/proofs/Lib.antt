@@ -2,5 +2,4 @@
 pub mod Ends
 pub mod History
 pub mod BothEnds
-pub mod Values
 pub mod Refusing

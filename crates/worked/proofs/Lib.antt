@@ -1,0 +1,2 @@
+-- Document 01's values, computed.
+pub mod Values
