@@ -1,14 +1,15 @@
 -- Writing a frame: document 01, "Forms and frames": "Writing checks 1, 13, 5, and bytes beyond the frame keep what they held."
 -- Assumes nothing.
 use mathlib.Core.Bool.{Bool}
-use mathlib.Core.List.{List, _++_}
+use mathlib.Core.List.{List}
 use Prim.Native.Nat.{ℕ, _+_}
 use lib.Dec.{leb}
-use lib.ListN.{length, drop}
+use lib.ListN.{length}
 use Rattle.refusal.specs.declared.Refusal.the-variants.{OutOfRange, PacketTooLong, OutputTooShort}
 use Rattle.refusal.specs.declared.Verdict.{Verdict}
 use Rattle.refusal.specs.declared.Verdict.the-variants.{Done, Refused}
 use Rattle.refusal.specs.Numbers.{numberOf, check}
+use Rattle.lists.specs.Lists.{over}
 use Rattle.fields.specs.Rows.{bytesOf}
 use Rattle.form.specs.declared.Form.{Form}
 use Rattle.codec.specs.declared.Head.{Head}
@@ -42,7 +43,7 @@ writtenBy (Refused why) len = NotWritten why
 
 -- the lent output afterwards: the frame and what stood beyond it; a refusal writes nothing
 abbrev pub outputBy : Verdict → List ℕ → List ℕ → List ℕ
-outputBy Done frame out = frame ++ drop (length frame) out
+outputBy Done frame out = over frame out
 outputBy (Refused why) frame out = out
 
 -- ---- a header that is given as a number

@@ -28,6 +28,7 @@ roomFor form (suc k) n = frameLength (segOf form) (3 + shareOf form) + roomFor f
 pub record Room (form : Form) (s : Start) (message : List ℕ) (room places : ℕ) : Type 0 where
   pub good : formGood form ≡ true
   pub fit : fits (dataOf s false) 0 ≡ true
+  pub small : length message ≤ 4096
   pub bytes : length (bytesIn (framesOf form s message)) ≤ room
   pub frames : length (framesOf form s message) ≤ places
 

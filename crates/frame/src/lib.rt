@@ -252,7 +252,7 @@ impl ClearConfirmation {
             sn: LinkNumber((h / 65536 % 64) as u8),
             ch: (h / 4096 % 16) as u8,
             am: (h / 256 % 16) as u8,
-            ag: (h / 1 % 256) as u8,
+            ag: (h % 256) as u8,
         }
     }
 }

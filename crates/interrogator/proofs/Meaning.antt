@@ -16,7 +16,7 @@ use Rattle.interrogator.specs.declared.LastUsed.{LastUsed}
 use Rattle.interrogator.specs.declared.LastUsed.the-variants.{Code, Nothing as NoCode}
 use Rattle.interrogator.specs.declared.Choice.{Choice}
 use Rattle.interrogator.specs.declared.Choice.the-variants.{Chosen, Refused as NotChosen}
-use Rattle.interrogator.specs.Choosing.{usable, lastGood, chooseVerdict, chosenCode, chooseBy, chooseOf}
+use Rattle.interrogator.specs.Choosing.{choiceNumber, choiceCode, usable, lastGood, chooseVerdict, chosenCode, chooseBy, chooseOf}
 use Rattle.interrogator.specs.Meaning.{Usable, ChoiceMeans}
 
 -- what is in one set and not in another
@@ -97,6 +97,10 @@ module _ (codes failed : ℕ) where
         ap₂ (λ (b : Bool) (e : Bool). chosenBy b e (eqb (usable codes failed) 0)) g (ne-eqb codes 0 (not-empty codes c (u .1)))
         ∙ ap (chosenBy true false) (ne-eqb (usable codes failed) 0 (not-empty (usable codes failed) c (is-usable c u)))
 
+none-named : (c : Choice) → choiceNumber c ≢ 0 → choiceCode c ≡ 0
+none-named (Chosen code) h = absurd (h refl)
+none-named (NotChosen why) h = refl
+
 pub choice-means : ChoiceMeans
 choice-means codes last failed = record {
   can-be-used = λ c e.
@@ -111,6 +115,7 @@ choice-means codes last failed = record {
   out-of-range = was (NotChosen OutOfRange);
   no-interrogator = λ e c m. not-empty codes c m (was (NotChosen NoInterrogator) e);
   all-failed = λ e c u. not-empty (usable codes failed) c (is-usable codes failed c u) (was (NotChosen AllFailed) e);
+  none-named = none-named (chooseOf codes last failed);
   always = λ c g u. (chosenCode (usable codes failed) last, must-choose codes failed last c g u);
 }
   where

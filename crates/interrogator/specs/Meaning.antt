@@ -2,6 +2,7 @@
 -- usable; and a choice is refused only for the reasons that its number names.
 -- Assumes nothing.
 use mathlib.Core.Path.{_≡_}
+use mathlib.Core.Logic.{_≢_}
 use mathlib.Core.Bool.{true, false}
 use Prim.Native.Nat.{ℕ, _<_}
 use Rattle.refusal.specs.declared.Refusal.the-variants.{OutOfRange, NoInterrogator, AllFailed}
@@ -9,7 +10,7 @@ use Rattle.wordset.specs.Sets.{member}
 use Rattle.interrogator.specs.declared.LastUsed.{LastUsed}
 use Rattle.interrogator.specs.declared.LastUsed.the-variants.{Code}
 use Rattle.interrogator.specs.declared.Choice.the-variants.{Chosen, Refused as NotChosen}
-use Rattle.interrogator.specs.Choosing.{lastGood, chooseOf}
+use Rattle.interrogator.specs.Choosing.{choiceNumber, choiceCode, lastGood, chooseOf}
 
 -- the code c can be used
 abbrev pub Usable : ℕ → ℕ → ℕ → Type 0
@@ -23,6 +24,8 @@ pub record ChoiceClaim (codes : ℕ) (last : LastUsed) (failed : ℕ) : Type 0 w
   pub out-of-range : chooseOf codes last failed ≡ NotChosen OutOfRange → lastGood last ≡ false
   pub no-interrogator : chooseOf codes last failed ≡ NotChosen NoInterrogator → (c : ℕ) → member codes c ≡ true → ⊥
   pub all-failed : chooseOf codes last failed ≡ NotChosen AllFailed → (c : ℕ) → Usable codes failed c → ⊥
+  -- a refusal names no code
+  pub none-named : choiceNumber (chooseOf codes last failed) ≢ 0 → choiceCode (chooseOf codes last failed) ≡ 0
   pub always : (c : ℕ) → lastGood last ≡ true → Usable codes failed c → (d : ℕ) × (chooseOf codes last failed ≡ Chosen d)
 
 abbrev pub ChoiceMeans : Type 0

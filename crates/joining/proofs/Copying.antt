@@ -10,8 +10,7 @@ use Rattle.codec.proofs.Writing.{paste-after}
 use Rattle.lists.specs.Lists.{over}
 use Rattle.lists.specs.Frames.{partsOf, sum}
 use Rattle.form.specs.declared.Form.{Form}
-use Rattle.joining.specs.Joining.{messageIn}
-use Rattle.joining.specs.Parts.{userIn}
+use Rattle.joining.specs.Joining.{messageIn, userIn}
 use Rattle.joining.proofs.Places.{from, At, from-here, from-end, at-start, at-next, part-is}
 
 pub record Copying (form : Form) (ls bytes out₀ out : List ℕ) (at p i : ℕ) : Type 0 where

@@ -25,8 +25,8 @@ use Rattle.joining.specs.declared.Before.the-variants.{Nothing}
 use Rattle.joining.specs.declared.Turn.{Turn}
 use Rattle.joining.specs.declared.Turn.the-variants.{GoesOn, Refused as NotGoing}
 use Rattle.joining.specs.declared.Joined.the-variants.{Bytes, Refused as NotJoined}
-use Rattle.joining.specs.Joining.{turnVerdict, nextBefore, userOf, framesVerdict, messageIn, joinBy}
-use Rattle.joining.specs.Parts.{dataIn, packetVerdict, turnBy, turnOf, userIn}
+use Rattle.joining.specs.Joining.{turnVerdict, nextBefore, userOf, framesVerdict, messageIn, joinBy, userIn}
+use Rattle.joining.specs.Parts.{dataIn, packetVerdict, turnBy, turnOf}
 use Rattle.joining.proofs.Places.{from, At, last-is, none-parts, from-here, from-end, at-start, frame-in, at-next, part-is}
 
 -- ---- one frame

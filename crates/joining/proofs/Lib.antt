@@ -2,3 +2,4 @@
 pub mod Places
 pub mod Judging
 pub mod Copying
+pub mod Answers

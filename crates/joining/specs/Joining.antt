@@ -65,6 +65,9 @@ abbrev pub userOf : Read → List ℕ → List ℕ
 userOf (PacketRead p place) frame = partOf frame place
 userOf (NotRead why) frame = []
 
+abbrev pub userIn : Form → List ℕ → List ℕ
+userIn form frame = userOf (readOf form frame) frame
+
 -- ---- frame by frame
 
 unfoldable pub framesVerdict : Form → Before → List (List ℕ) → Verdict
@@ -75,7 +78,7 @@ framesVerdict form before (f ∷ fs) =
 -- the user data of all frames
 unfoldable pub messageIn : Form → List (List ℕ) → List ℕ
 messageIn form [] = []
-messageIn form (f ∷ fs) = userOf (readOf form f) f ++ messageIn form fs
+messageIn form (f ∷ fs) = userIn form f ++ messageIn form fs
 
 -- ---- the whole
 

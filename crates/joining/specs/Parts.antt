@@ -9,9 +9,7 @@ use Rattle.refusal.specs.declared.Verdict.{Verdict}
 use Rattle.refusal.specs.declared.Verdict.the-variants.{Done, Refused}
 use Rattle.frame.specs.declared.Packet.{Packet}
 use Rattle.frame.specs.declared.Packet.the-variants.{Data as DataPacket, ClearRequest, ClearConfirmation}
-use Rattle.form.specs.declared.Form.{Form}
 use Rattle.frame.specs.declared.Read.{Read}
-use Rattle.frame.specs.Reading.{readOf}
 use Rattle.joining.specs.declared.Before.{Before}
 use Rattle.joining.specs.declared.Before.the-variants.{Nothing, Packet as PacketBefore}
 use Rattle.joining.specs.declared.Turn.{Turn}
@@ -39,10 +37,6 @@ turnBy (Refused why) next user = NotGoing why
 -- a frame's turn, by what was read in it
 abbrev pub turnOf : Before → Bool → Read → List ℕ → Turn
 turnOf before last r frame = turnBy (turnVerdict before last r) (nextBefore r) (length (userOf r frame))
-
--- a frame's user data
-abbrev pub userIn : Form → List ℕ → List ℕ
-userIn form frame = userOf (readOf form frame) frame
 
 -- "then 4, then 5", after what the frames came to
 abbrev pub sized : Joined → ℕ → Joined

@@ -26,18 +26,17 @@ pub count-parts : (ls bytes : List ℕ) → length (partsOf ls bytes) ≡ length
 count-parts [] bytes = refl
 count-parts (l ∷ ls) bytes = ap suc (count-parts ls (drop l bytes))
 
--- the lengths sum to the bytes
-module _ where
-  pub bytes-back : (ls bytes : List ℕ) → sum ls ≡ length bytes → bytesIn (partsOf ls bytes) ≡ bytes
-  bytes-back [] [] e = refl
-  bytes-back [] (b ∷ bs) e = absurd (omega arith)
-  bytes-back (l ∷ ls) bytes e =
-      ap (λ (x : List ℕ). take l bytes ++ x) (bytes-back ls (drop l bytes) (omega (arith, length-drop l bytes))) ∙ take-append-drop l bytes
+-- where the lengths sum to the bytes, the frames are all of them
+pub bytes-back : (ls bytes : List ℕ) → sum ls ≡ length bytes → bytesIn (partsOf ls bytes) ≡ bytes
+bytes-back [] [] e = refl
+bytes-back [] (b ∷ bs) e = absurd (omega arith)
+bytes-back (l ∷ ls) bytes e =
+    ap (λ (x : List ℕ). take l bytes ++ x) (bytes-back ls (drop l bytes) (omega (arith, length-drop l bytes))) ∙ take-append-drop l bytes
 
-  pub lengths-back : (ls bytes : List ℕ) → sum ls ≡ length bytes → lengthsOf (partsOf ls bytes) ≡ ls
-  lengths-back [] bytes e = refl
-  lengths-back (l ∷ ls) bytes e =
-      ap₂ (λ (x : ℕ) (y : List ℕ). x ∷ y) (length-take-le l bytes (omega arith)) (lengths-back ls (drop l bytes) (omega (arith, length-drop l bytes)))
+pub lengths-back : (ls bytes : List ℕ) → sum ls ≡ length bytes → lengthsOf (partsOf ls bytes) ≡ ls
+lengths-back [] bytes e = refl
+lengths-back (l ∷ ls) bytes e =
+    ap₂ (λ (x : ℕ) (y : List ℕ). x ∷ y) (length-take-le l bytes (omega arith)) (lengths-back ls (drop l bytes) (omega (arith, length-drop l bytes)))
 
 -- ---- one after the other
 

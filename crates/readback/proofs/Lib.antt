@@ -3,3 +3,4 @@ pub mod Bytes
 pub mod Contents
 pub mod Table
 pub mod ReadBack
+pub mod Refusing

@@ -1,2 +1,3 @@
 -- The claims about frames written and read.
 pub mod ReadBack
+pub mod Refusing

@@ -2,9 +2,10 @@
 -- packet, in the words of the calls' own answers.
 -- Assumes nothing.
 use mathlib.Core.Path.{_≡_}
-use mathlib.Core.List.{List, _++_}
-use Prim.Native.Nat.{ℕ, _+_, _≤_}
-use lib.ListN.{length, take, drop}
+use mathlib.Core.List.{List}
+use Prim.Native.Nat.{ℕ, _≤_}
+use lib.ListN.{length, take}
+use Rattle.lists.specs.Lists.{over}
 use Rattle.fields.specs.Rows.{AreBytes}
 use Rattle.form.specs.declared.Form.{Form}
 use Rattle.codec.specs.declared.Written.the-variants.{Done}
@@ -27,7 +28,7 @@ pub record WrittenIsRead (form : Form) (p : Packet) (user out : List ℕ) (n : �
 -- the reader answered with a packet and the place of its user data
 pub record ReadIsWritten (form : Form) (frame : List ℕ) (p : Packet) (place : UserData) (out : List ℕ) : Type 0 where
   pub answer : writeOf form p (place .len) (length out) ≡ Done (length frame)
-  pub bytes : writeOutput form p (partOf frame place) out ≡ frame ++ drop (length frame) out
+  pub bytes : writeOutput form p (partOf frame place) out ≡ over frame out
 
 pub record ReadBack : Type 0 where
   pub written-is-read : (form : Form) (p : Packet) (user out : List ℕ) (n : ℕ)

@@ -28,8 +28,8 @@ use Rattle.cutting.specs.declared.Start.{Start}
 use Rattle.joining.specs.declared.Before.{Before}
 use Rattle.joining.specs.declared.Before.the-variants.{Packet as PacketBefore}
 use Rattle.cutting.specs.Cutting.{shareOf, fullFrames, dataOf, nextStart, framesFrom}
-use Rattle.joining.specs.Joining.{follows, nextBefore, userOf, framesVerdict, messageIn}
-use Rattle.reassembly.specs.Claims.{hasPr, userIn, AsCut, startOf}
+use Rattle.joining.specs.Joining.{follows, nextBefore, userOf, framesVerdict, messageIn, userIn}
+use Rattle.reassembly.specs.Claims.{hasPr, AsCut, startOf}
 use Rattle.cutting.proofs.Sizes.{share-range, one-frame}
 use Rattle.reassembly.proofs.Shares.{shares-more}
 use Rattle.reassembly.proofs.Joining.{IsTurn, first-turn, user-share}

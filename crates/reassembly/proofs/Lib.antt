@@ -6,3 +6,4 @@ pub mod Cutting
 pub mod Joining
 pub mod Again
 pub mod Claims
+pub mod Refusing

@@ -19,7 +19,7 @@ use Rattle.cutting.specs.declared.Cut.the-variants.{Frames}
 use Rattle.joining.specs.declared.Joined.the-variants.{Bytes}
 use Rattle.lists.specs.Frames.{partsOf}
 use Rattle.cutting.specs.Cutting.{shareOf, framesOf, cutOf, cutOutput, cutLengths}
-use Rattle.joining.specs.Joining.{userOf, messageIn, joinOf, joinOutput}
+use Rattle.joining.specs.Joining.{userIn, messageIn, joinOf, joinOutput}
 
 -- ---- "A message cut and then joined comes back the same."
 
@@ -37,9 +37,6 @@ hasPr pr (PacketRead (DataPacket d) place) = d .pr .0 ≡ pr
 hasPr pr (PacketRead (ClearRequest d) place) = ⊥
 hasPr pr (PacketRead (ClearConfirmation d) place) = ⊥
 hasPr pr (NotRead why) = ⊥
-
-abbrev pub userIn : Form → List ℕ → List ℕ
-userIn form frame = userOf (readOf form frame) frame
 
 -- every frame but the last is full, the last of several is not empty, and PR is the same on all
 unfoldable pub AsCut : Form → ℕ → Bool → List (List ℕ) → Type 0

@@ -1,2 +1,3 @@
 -- The claims about messages cut and joined.
 pub mod Claims
+pub mod Refusing

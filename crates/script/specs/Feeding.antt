@@ -4,7 +4,8 @@ use mathlib.Core.Bool.{cond}
 use mathlib.Core.List.{List, [], _∷_, _++_}
 use Prim.Native.Nat.{ℕ, _+_, _*_}
 use lib.Dec.{eqb, leb, ltb}
-use lib.ListN.{length, set, take, drop, replicate}
+use lib.ListN.{length, set, take, replicate}
+use Rattle.lists.specs.Lists.{over}
 use Rattle.refusal.specs.declared.Refusal.the-variants.{OutputTooShort}
 use Rattle.refusal.specs.declared.Verdict.{Verdict}
 use Rattle.refusal.specs.declared.Verdict.the-variants.{Done, Refused}
@@ -65,7 +66,7 @@ feedOf r part out = feedBy (feedVerdict part out) r part
 
 -- the lent output afterwards: the report in front, the rest as it was; after a refusal all as it was
 abbrev pub feedOutBy : Verdict → Replay → List ℕ → List ℕ → List ℕ
-feedOutBy Done r part out = feedText r part ++ drop (length (feedText r part)) out
+feedOutBy Done r part out = over (feedText r part) out
 feedOutBy (Refused why) r part out = out
 
 unfoldable pub feedOut : Replay → List ℕ → List ℕ → List ℕ
@@ -87,7 +88,7 @@ unfoldable pub finishOf : Replay → List ℕ → Finished
 finishOf r out = finishBy (finishVerdict out) r
 
 abbrev pub finishOutBy : Verdict → Replay → List ℕ → List ℕ
-finishOutBy Done r out = finishText r ++ drop (length (finishText r)) out
+finishOutBy Done r out = over (finishText r) out
 finishOutBy (Refused why) r out = out
 
 unfoldable pub finishOut : Replay → List ℕ → List ℕ

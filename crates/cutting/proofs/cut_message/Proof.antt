@@ -1,46 +1,24 @@
 -- `cutting::cut_message` meets its contract: the verdict tells which case of `cutOf`, `cutOutput` and `cutLengths` holds.
 -- Assumes nothing.
 use mathlib.Core.Path.{_≡_, refl, sym, _∙_}
-use mathlib.Core.Bool.{false}
 use mathlib.Core.List.{List}
 use Prim.Native.Nat.{ℕ}
-use lib.Dec.{leb}
 use lib.ListN.{length}
 use borrow.Author.Needs.{needs}
-use borrow.Author.Tests.{leb-true}
 use Rattle.refusal.specs.declared.Refusal.{Refusal}
-use Rattle.refusal.specs.declared.Refusal.the-variants.{OutOfRange, MessageTooLong, OutputTooShort}
 use Rattle.refusal.specs.declared.Verdict.the-variants.{Done, Refused}
-use Rattle.refusal.specs.Numbers.{check}
-use Rattle.refusal.proofs.Checks.{check-done}
 use Rattle.lists.specs.Frames.{bytesIn, lengthsOf}
 use Rattle.lists.specs.Lists.{over}
 use Rattle.form.specs.declared.Form.{Form}
-use Rattle.form.specs.Forms.{formGood}
-use Rattle.frame.specs.Writing.{fits}
 use Rattle.cutting.specs.declared.Start.{Start}
 use Rattle.cutting.specs.declared.Cut.{Cut}
 use Rattle.cutting.specs.declared.Cut.the-variants.{Refused as NotCut}
-use Rattle.cutting.specs.Cutting.{dataOf, framesOf, cutVerdict, cutBy, cutOf, cutOutput, cutLengths}
-use Rattle.cutting.specs.Parts.{Room}
+use Rattle.cutting.specs.Cutting.{framesOf, cutVerdict, cutBy, cutOf, cutOutput, cutLengths}
+use Rattle.cutting.proofs.Passed.{passed}
 use Rattle.cutting.proofs.cut_message.Statement.{statement}
 use Rattle.cutting.proofs.cut_message.Tie as tie
 
 -- a message that passes the checks has room
-passed : (form : Form) (s : Start) (m : List ℕ) (room places : ℕ) → cutVerdict form s m room places ≡ Done → Room form s m room places
-unfolding cutVerdict
-passed form s m room places e =
-    let frames = framesOf form s m in
-    let r4 = check (leb (length frames) places) OutputTooShort Done in
-    let r3 = check (leb (length (bytesIn frames)) room) OutputTooShort r4 in
-    let r2 = check (leb (length m) 4096) MessageTooLong r3 in
-    let a = check-done (formGood form) OutOfRange (check (fits (dataOf s false) 0) OutOfRange r2) e in
-    let b = check-done (fits (dataOf s false) 0) OutOfRange r2 (a .1) in
-    let c = check-done (leb (length m) 4096) MessageTooLong r3 (b .1) in
-    let d = check-done (leb (length (bytesIn frames)) room) OutputTooShort r4 (c .1) in
-    let f = check-done (leb (length frames) places) OutputTooShort Done (d .1) in
-    record { good = a .0; fit = b .0; bytes = leb-true (length (bytesIn frames)) room (d .0); frames = leb-true (length frames) places (f .0) }
-
 module _ (form : Form) (s : Start) (m o l : List ℕ) where
   done : (r : Cut) (o1 l1 : List ℕ) → cutVerdict form s m (length o) (length l) ≡ Done → r ≡ cutBy Done (framesOf form s m) → o1 ≡ over (bytesIn (framesOf form s m)) o
       → l1 ≡ over (lengthsOf (framesOf form s m)) l

@@ -7,8 +7,7 @@ use lib.ListN.{length}
 use lib.Seq.{paste, paste-zero}
 use borrow.Author.Needs.{needs}
 use Rattle.frame.specs.declared.Read.{Read}
-use Rattle.joining.specs.Joining.{userOf}
-use Rattle.joining.specs.Parts.{userIn}
+use Rattle.joining.specs.Joining.{userOf, userIn}
 use Rattle.joining.proofs.copy_user.Statement.{statement}
 use Rattle.joining.proofs.copy_user.Tie as tie
 
