@@ -2,14 +2,14 @@
 -- Assumes nothing.
 use mathlib.Core.Path.{_≡_}
 use mathlib.Core.Bool.{true}
-use Prim.Native.Nat.{_≤_}
+use Prim.Native.Nat.{ℕ, _-_, _≤_}
 use native.Mathlib.Omega.{arith}
 use lib.Dec.{leb}
-use borrow.Author.Tests.{leb-true}
+use borrow.Author.Tests.{leb-true, eq-eqb, ne-eqb}
 use Rattle.refusal.proofs.Checks.{both-true}
 use Rattle.form.specs.declared.Form.{Form}
 use Rattle.form.specs.declared.Form.the-variants.{ShortUplink, LongUplink, LongDownlink}
-use Rattle.form.specs.Forms.{segOf, mostOf, formGood}
+use Rattle.form.specs.Forms.{segOf, mostOf, formGood, formAt}
 
 pub segment-some : (form : Form) → 1 ≤ segOf form
 segment-some ShortUplink = omega arith
@@ -29,3 +29,17 @@ most-range LongUplink e = omega arith
 most-range (LongDownlink n) e =
     let p = both-true (leb 1 n) (leb n 16) e in
     omega (arith, leb-true 1 n (p .0), leb-true n 16 (p .1))
+
+-- ---- the form that a number stands for
+
+pub at-short : (n : ℕ) → n ≡ 0 → formAt n ≡ ShortUplink
+unfolding formAt
+at-short n e = rw (eq-eqb n 0 e)
+
+pub at-long : (n : ℕ) → (n ≡ 0 → ⊥) → n ≡ 1 → formAt n ≡ LongUplink
+unfolding formAt
+at-long n z e = rw (ne-eqb n 0 z, eq-eqb n 1 e)
+
+pub at-downlink : (n : ℕ) → (n ≡ 0 → ⊥) → (n ≡ 1 → ⊥) → formAt n ≡ LongDownlink (n - 2)
+unfolding formAt
+at-downlink n z o = rw (ne-eqb n 0 z, ne-eqb n 1 o)

@@ -1,8 +1,8 @@
 -- The forms: document 01, "Forms and frames", first paragraph.
 -- Assumes nothing.
-use mathlib.Core.Bool.{Bool, true, _&&_}
-use Prim.Native.Nat.{ℕ, _*_}
-use lib.Dec.{leb}
+use mathlib.Core.Bool.{Bool, true, cond, _&&_}
+use Prim.Native.Nat.{ℕ, _-_, _*_}
+use lib.Dec.{leb, eqb}
 use Rattle.form.specs.declared.Form.{Form}
 use Rattle.form.specs.declared.Form.the-variants.{ShortUplink, LongUplink, LongDownlink}
 
@@ -23,3 +23,7 @@ abbrev pub formGood : Form → Bool
 formGood ShortUplink = true
 formGood LongUplink = true
 formGood (LongDownlink n) = leb 1 n && leb n 16
+
+-- a form as one number, for callers that have no enums: 0 is the short uplink, 1 the long uplink, 2 + n the long downlink with n segments
+unfoldable pub formAt : ℕ → Form
+formAt n = cond (eqb n 0) ShortUplink (cond (eqb n 1) LongUplink (LongDownlink (n - 2)))

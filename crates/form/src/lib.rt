@@ -1,7 +1,7 @@
 // The forms of a frame, and how a packet's bytes fill their segments (document 01, "Forms and frames").
 ghost use mathlib.Core.Path.{_≡_};
 ghost use Prim.Native.Nat.{_≤_};
-ghost use Rattle.form.specs.Forms.{segOf, mostOf, formGood};
+ghost use Rattle.form.specs.Forms.{segOf, mostOf, formGood, formAt};
 ghost use Rattle.form.specs.Segments.{padding, lastUsed, wholeSegments};
 
 // A form.
@@ -13,6 +13,19 @@ pub enum Form {
 }
 
 impl Form {
+    // The form that a number stands for: 0 the short uplink, 1 the long uplink, 2 + n the long downlink with n segments.
+    pub fn from_number(n: u8) -> Form
+        ensures { λ r. ⌜ r ≡ formAt n ⌝ }
+    {
+        if n == 0 {
+            Form::ShortUplink
+        } else if n == 1 {
+            Form::LongUplink
+        } else {
+            Form::LongDownlink(n - 2)
+        }
+    }
+
     // Whether there is such a form: a downlink frame has 1 to 16 segments.
     pub fn is_good(self) -> bool
         ensures { λ r. ⌜ r ≡ formGood self ⌝ }

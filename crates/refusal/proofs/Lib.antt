@@ -1,2 +1,3 @@
 -- The laws of checks.
 pub mod Checks
+pub mod Numbers

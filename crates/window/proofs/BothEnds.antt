@@ -9,17 +9,17 @@ use Prim.Native.Nat.{ℕ, zero, suc, _+_, _%_, _≤_, zero-le}
 use native.Mathlib.Decide.{decLe}
 use native.Mathlib.Omega.{arith}
 use lib.ListN.{length, replicate}
-use Rattle.window.specs.declared.sender.Sender.{Sender}
-use Rattle.window.specs.declared.sender.Sent.{Sent}
-use Rattle.window.specs.declared.sender.Acknowledged.{Acknowledged}
-use Rattle.window.specs.declared.receiver.Received.{Received}
-use Rattle.window.specs.declared.receiver.Told.{Told}
+use Rattle.sender.specs.declared.Sender.{Sender}
+use Rattle.sender.specs.declared.Sent.{Sent}
+use Rattle.sender.specs.declared.Acknowledged.{Acknowledged}
+use Rattle.receiver.specs.declared.Received.{Received}
+use Rattle.receiver.specs.declared.Told.{Told}
 use Rattle.refusal.specs.declared.Verdict.the-variants.{Done}
 use Rattle.refusal.specs.Numbers.{verdictNumber}
 use Rattle.sequence.specs.declared.PacketNumber.{PacketNumber}
 use Rattle.sequence.specs.Numbers.{packet}
-use Rattle.window.specs.Sending.{freshSender, sendOf, acknowledgeOf}
-use Rattle.window.specs.Receiving.{freshReceiver, receiverGood, receiptNumber}
+use Rattle.sender.specs.Sending.{freshSender, sendOf, acknowledgeOf}
+use Rattle.receiver.specs.Receiving.{freshReceiver, receiverGood, receiptNumber}
 use Rattle.window.specs.History.{noteGrant}
 use Rattle.window.specs.BothEnds.{Flow, Event, grant, deliver, tell, deliverPr, noteTelling, delivered, deliveredPr, step, run, NoneRefused}
 use Rattle.window.proofs.Ends.{senderAt, send-open, send-closed, acknowledge-taken, taken-good, fresh-good, tell-told, tell-good, receive-taken}

@@ -18,13 +18,13 @@ use Rattle.sequence.specs.declared.PacketNumber.{PacketNumber}
 use Rattle.sequence.specs.Modular.{distance, next}
 use Rattle.sequence.specs.Numbers.{packet, inField}
 use Rattle.sequence.proofs.Modular.{distance-reaches, distance-remainder, distance-apart}
-use Rattle.window.specs.declared.sender.Sender.{Sender}
-use Rattle.window.specs.declared.sender.Grant.the-variants.{Granted, Refused as NotGranted}
-use Rattle.window.specs.declared.receiver.Receiver.{Receiver}
-use Rattle.window.specs.declared.receiver.Receipt.the-variants.{Taken, Refused as NotTaken}
-use Rattle.window.specs.declared.receiver.Telling.the-variants.{Tell}
-use Rattle.window.specs.Sending.{senderGood, sendVerdict, sendOf, acknowledgeVerdict, acknowledgeOf}
-use Rattle.window.specs.Receiving.{freshReceiver, receiverGood, receiveVerdict, receiveOf, tellOf}
+use Rattle.sender.specs.declared.Sender.{Sender}
+use Rattle.sender.specs.declared.Grant.the-variants.{Granted, Refused as NotGranted}
+use Rattle.receiver.specs.declared.Receiver.{Receiver}
+use Rattle.receiver.specs.declared.Receipt.the-variants.{Taken, Refused as NotTaken}
+use Rattle.receiver.specs.declared.Telling.the-variants.{Tell}
+use Rattle.sender.specs.Sending.{senderGood, sendVerdict, sendOf, acknowledgeVerdict, acknowledgeOf}
+use Rattle.receiver.specs.Receiving.{freshReceiver, receiverGood, receiveVerdict, receiveOf, tellOf}
 
 -- ---- the sending end
 

@@ -14,15 +14,15 @@ use Rattle.refusal.specs.declared.Refusal.{Refusal}
 use Rattle.refusal.specs.declared.Verdict.the-variants.{Done, Refused}
 use Rattle.sequence.specs.Modular.{distance}
 use Rattle.sequence.specs.Numbers.{packet}
-use Rattle.window.specs.declared.receiver.Receipt.the-variants.{Refused as NotTaken}
-use Rattle.window.specs.declared.sender.Sender.{Sender}
-use Rattle.window.specs.declared.sender.Sent.{Sent}
-use Rattle.window.specs.declared.sender.Acknowledged.{Acknowledged}
-use Rattle.window.specs.declared.receiver.Receiver.{Receiver}
-use Rattle.window.specs.declared.receiver.Received.{Received}
-use Rattle.window.specs.declared.receiver.Told.{Told}
-use Rattle.window.specs.Sending.{freshSender, senderGood, sendOf, acknowledgeOf}
-use Rattle.window.specs.Receiving.{freshReceiver, receiverGood, receiveOf, tellOf}
+use Rattle.receiver.specs.declared.Receipt.the-variants.{Refused as NotTaken}
+use Rattle.sender.specs.declared.Sender.{Sender}
+use Rattle.sender.specs.declared.Sent.{Sent}
+use Rattle.sender.specs.declared.Acknowledged.{Acknowledged}
+use Rattle.receiver.specs.declared.Receiver.{Receiver}
+use Rattle.receiver.specs.declared.Received.{Received}
+use Rattle.receiver.specs.declared.Told.{Told}
+use Rattle.sender.specs.Sending.{freshSender, senderGood, sendOf, acknowledgeOf}
+use Rattle.receiver.specs.Receiving.{freshReceiver, receiverGood, receiveOf, tellOf}
 use Rattle.window.specs.History.{Numbered, SenderCall, send, acknowledge, SenderHistory, noteGrant, notePr, senderStep, senderRun, senderHistory, SenderClaim, ReceiverCall, receive, tell, ReceiverHistory, noteReceipt, receiverStep, receiverRun, ReceiverClaim}
 use Rattle.window.proofs.Ends.{senderAt, sender-good, send-open, send-closed, acknowledge-cases, fresh-good, taken-good, tell-told, tell-good, receive-taken, receive-cases}
 

@@ -8,12 +8,12 @@ use Rattle.refusal.specs.declared.Refusal.the-variants.{NotInOrder}
 use Rattle.refusal.specs.declared.Verdict.{Verdict}
 use Rattle.refusal.specs.declared.Verdict.the-variants.{Done, Refused}
 use Rattle.refusal.specs.Numbers.{verdictNumber}
-use Rattle.window.specs.declared.sender.Sender.{Sender}
-use Rattle.window.specs.declared.receiver.Receiver.{Receiver}
-use Rattle.window.specs.declared.receiver.Told.{Told}
-use Rattle.window.specs.declared.receiver.Telling.the-variants.{Tell, Refused as NotTold}
-use Rattle.window.specs.Sending.{grantNumber, grantPs, sendVerdict, sendBy, sendOf, acknowledgeVerdict, acknowledgeBy, acknowledgeOf}
-use Rattle.window.specs.Receiving.{receiverGood, receiptNumber, receiptDue, receiveVerdict, receiveBy, receiveOf, tellingNumber, tellingPr, tellOf}
+use Rattle.sender.specs.declared.Sender.{Sender}
+use Rattle.receiver.specs.declared.Receiver.{Receiver}
+use Rattle.receiver.specs.declared.Told.{Told}
+use Rattle.receiver.specs.declared.Telling.the-variants.{Tell, Refused as NotTold}
+use Rattle.sender.specs.Sending.{grantNumber, grantPs, sendVerdict, sendBy, sendOf, acknowledgeVerdict, acknowledgeBy, acknowledgeOf}
+use Rattle.receiver.specs.Receiving.{receiverGood, receiptNumber, receiptDue, receiveVerdict, receiveBy, receiveOf, tellingNumber, tellingPr, tellOf}
 use Rattle.window.specs.Refusing.{RefusalsChangeNothing}
 
 send-by : (v : Verdict) (s : Sender) → grantNumber (sendBy v s .answer) ≢ 0 → (grantPs (sendBy v s .answer) ≡ 0) × (sendBy v s .end ≡ s)

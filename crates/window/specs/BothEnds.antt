@@ -5,12 +5,12 @@ use mathlib.Core.List.{List, [], _∷_, _++_}
 use Prim.Native.Nat.{ℕ}
 use lib.ListN.{length, replicate}
 use Rattle.refusal.specs.Numbers.{verdictNumber}
-use Rattle.window.specs.declared.sender.Sender.{Sender}
-use Rattle.window.specs.declared.receiver.Receiver.{Receiver}
-use Rattle.window.specs.declared.receiver.Telling.{Telling}
-use Rattle.window.specs.declared.receiver.Telling.the-variants.{Tell, Refused as NotTold}
-use Rattle.window.specs.Sending.{freshSender, sendOf, acknowledgeOf}
-use Rattle.window.specs.Receiving.{freshReceiver, receiveOf, receiptNumber, tellOf}
+use Rattle.sender.specs.declared.Sender.{Sender}
+use Rattle.receiver.specs.declared.Receiver.{Receiver}
+use Rattle.receiver.specs.declared.Telling.{Telling}
+use Rattle.receiver.specs.declared.Telling.the-variants.{Tell, Refused as NotTold}
+use Rattle.sender.specs.Sending.{freshSender, sendOf, acknowledgeOf}
+use Rattle.receiver.specs.Receiving.{freshReceiver, receiveOf, receiptNumber, tellOf}
 use Rattle.window.specs.History.{noteGrant}
 
 -- one direction of a circuit: its ends; the PS of the packets on the way, those sent first foremost; the PR on the way back, the same; and the

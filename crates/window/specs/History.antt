@@ -8,14 +8,14 @@ use lib.ListN.{length, getD}
 use Rattle.refusal.specs.declared.Verdict.{Verdict}
 use Rattle.refusal.specs.declared.Verdict.the-variants.{Done, Refused}
 use Rattle.sequence.specs.Modular.{distance}
-use Rattle.window.specs.declared.sender.Sender.{Sender}
-use Rattle.window.specs.declared.sender.Grant.{Grant}
-use Rattle.window.specs.declared.sender.Grant.the-variants.{Granted, Refused as NotGranted}
-use Rattle.window.specs.declared.receiver.Receiver.{Receiver}
-use Rattle.window.specs.declared.receiver.Receipt.{Receipt}
-use Rattle.window.specs.declared.receiver.Receipt.the-variants.{Taken, Refused as NotTaken}
-use Rattle.window.specs.Sending.{freshSender, senderGood, sendOf, acknowledgeOf}
-use Rattle.window.specs.Receiving.{freshReceiver, receiverGood, receiveOf, tellOf}
+use Rattle.sender.specs.declared.Sender.{Sender}
+use Rattle.sender.specs.declared.Grant.{Grant}
+use Rattle.sender.specs.declared.Grant.the-variants.{Granted, Refused as NotGranted}
+use Rattle.receiver.specs.declared.Receiver.{Receiver}
+use Rattle.receiver.specs.declared.Receipt.{Receipt}
+use Rattle.receiver.specs.declared.Receipt.the-variants.{Taken, Refused as NotTaken}
+use Rattle.sender.specs.Sending.{freshSender, senderGood, sendOf, acknowledgeOf}
+use Rattle.receiver.specs.Receiving.{freshReceiver, receiverGood, receiveOf, tellOf}
 
 -- the number at each place of a list is its place modulo 16
 abbrev pub Numbered : List ℕ → Type 0

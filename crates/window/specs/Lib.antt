@@ -1,6 +1,4 @@
--- What the contracts of `window` cite, and what is claimed of whole histories.
-pub mod Sending
-pub mod Receiving
+-- What is claimed of whole histories of the flow window, and of its refusals.
 pub mod History
 pub mod BothEnds
 pub mod Refusing

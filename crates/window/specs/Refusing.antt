@@ -6,10 +6,10 @@ use mathlib.Core.Bool.{false}
 use mathlib.Core.Logic.{_≢_}
 use Prim.Native.Nat.{ℕ}
 use Rattle.refusal.specs.Numbers.{verdictNumber}
-use Rattle.window.specs.declared.sender.Sender.{Sender}
-use Rattle.window.specs.declared.receiver.Receiver.{Receiver}
-use Rattle.window.specs.Sending.{grantNumber, grantPs, sendOf, acknowledgeOf}
-use Rattle.window.specs.Receiving.{receiptNumber, receiptDue, receiveOf, tellingNumber, tellingPr, tellOf}
+use Rattle.sender.specs.declared.Sender.{Sender}
+use Rattle.receiver.specs.declared.Receiver.{Receiver}
+use Rattle.sender.specs.Sending.{grantNumber, grantPs, sendOf, acknowledgeOf}
+use Rattle.receiver.specs.Receiving.{receiptNumber, receiptDue, receiveOf, tellingNumber, tellingPr, tellOf}
 
 pub record RefusalsChangeNothing : Type 0 where
   pub send : (s : Sender) → grantNumber (sendOf s .answer) ≢ 0 → (grantPs (sendOf s .answer) ≡ 0) × (sendOf s .end ≡ s)

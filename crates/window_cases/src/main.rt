@@ -1,12 +1,12 @@
 // Cases of the flow window: both ends, run step by step. Each line has a title, the number that the call answered, its value (`-` where there is
 // none) and the end after it. The output is compared with the file `stdout`.
 use libc::STDOUT_FILENO;
+use receiver::Receipt;
+use receiver::Receiver;
+use receiver::Telling;
+use sender::Grant;
+use sender::Sender;
 use sequence::PacketNumber;
-use window::receiver::Receipt;
-use window::receiver::Receiver;
-use window::receiver::Telling;
-use window::sender::Grant;
-use window::sender::Sender;
 
 fn main() {
     papers_values();

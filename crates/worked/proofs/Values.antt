@@ -4,7 +4,7 @@ use mathlib.Core.Path.{refl}
 use Rattle.lists.specs.Lists.{listFrom}
 use Rattle.sequence.specs.Modular.{distance}
 use Rattle.wordset.specs.Sets.{bit, member, setOf, first, every}
-use Rattle.window.specs.Sending.{senderGood, sendVerdict, sendOf}
+use Rattle.sender.specs.Sending.{senderGood, sendVerdict, sendOf}
 use Rattle.resequencer.specs.State.{heldInWindow, clocksOnHeld, clocksApart, hsnrFurthest, meetsClock, ticketsOfHeld, goodOrder}
 use Rattle.resequencer.specs.Events.{plain, places, handOn, handed, remaining, advance, heldTickets, startsClock, hold, runAfterNesn, handOnRun, takeArrival, arriveVerdict, arriveOf, passedByClock, takeClockEnd, clockEndVerdict, clockEndOf}
 use Rattle.form.specs.Segments.{padding, lastUsed, wholeSegments}

@@ -8,9 +8,9 @@ use lib.ListN.{length, replicate, set}
 use Rattle.refusal.specs.declared.Verdict.the-variants.{Done}
 use Rattle.sequence.specs.Numbers.{link, packet}
 use Rattle.wordset.specs.Sets.{with}
-use Rattle.window.specs.declared.sender.Sender.{Sender}
-use Rattle.window.specs.declared.sender.Grant.the-variants.{Granted}
-use Rattle.window.specs.Sending.{sendOf, grantNumber}
+use Rattle.sender.specs.declared.Sender.{Sender}
+use Rattle.sender.specs.declared.Grant.the-variants.{Granted}
+use Rattle.sender.specs.Sending.{sendOf, grantNumber}
 use Rattle.resequencer.specs.declared.Resequencer.{Resequencer}
 use Rattle.resequencer.specs.declared.Outcome.the-variants.{Held, Old}
 use Rattle.resequencer.specs.declared.Answer.{Answer}

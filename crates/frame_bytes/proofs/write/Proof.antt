@@ -1,0 +1,59 @@
+-- `frame_bytes::write` meets its contract: ten bytes are a kind and its values.
+-- Assumes nothing.
+use mathlib.Core.Path.{_≡_, sym, ap, subst, _∙_}
+use mathlib.Core.Bool.{true}
+use mathlib.Core.List.{List}
+use Prim.Native.Nat.{ℕ, _-_}
+use native.Mathlib.Omega.{arith}
+use lib.ListN.{length, take, drop}
+use borrow.Author.Needs.{needs}
+use borrow.Author.Tests.{not-true, not-false}
+use borrow.Rule.Slice.PartAt.{part-to-end}
+use Rattle.frame.specs.declared.Found.the-variants.{Known}
+use Rattle.frame_bytes.specs.Stored.{writeCodeBy, writeBytesBy}
+use Rattle.frame_bytes.proofs.Answers.{ten-code, ten-bytes, other-code, other-bytes}
+use Rattle.frame_bytes.proofs.write.Statement.{statement}
+use Rattle.frame_bytes.proofs.write.Tie as tie
+
+returns : tie.Need-returns
+returns c =
+    let a = c .before .before .before .before .args in (
+      other-code (a .form) (a .packet .now) (length (a .user .now)) (length (a .out .now)) (c .if1 .taken),
+      other-bytes (a .form) (a .packet .now) (a .user .now) (a .out .now) (c .if1 .taken),
+    )
+
+returns-2 : tie.Need-returns-2
+returns-2 c =
+    let a = c .before .before .before .before .before .before .before .before .before .before .before .before .before .before .args in
+    let found = sym (c .before .before .before .before .before .before .found .given .1) ∙ c .before .before .before .before .before .before .before .before .kind-at .ensures in
+    let k = Known (c .before .before .before .before .before .before .found .given .0 .0) in
+    let part = part-to-end (a .packet .now) 1 in
+    let ten : length (a .packet .now) ≡ 10 = omega (arith, c .before .before .before .before .before .before .before .before .before .before .if1 .left) in (
+      c .before .before .write-known .ensures .0
+          ∙ ap (λ (v : List ℕ). writeCodeBy k (a .form) v (length (a .user .now)) (length (a .out .now))) part
+          ∙ ten-code (a .form) (a .packet .now) _ (length (a .user .now)) (length (a .out .now)) ten found,
+      c .before .before .write-known .ensures .1
+          ∙ ap (λ (v : List ℕ). writeBytesBy k (a .form) v (a .user .now) (a .out .now)) part
+          ∙ ten-bytes (a .form) (a .packet .now) _ (a .user .now) (a .out .now) ten found,
+    )
+
+returns-3 : tie.Need-returns-3
+returns-3 c =
+    let a = c .before .before .before .before .before .before .before .before .args in
+    let found = sym (c .enum-told .given .1) ∙ c .before .before .kind-at .ensures in
+    let ten : length (a .packet .now) ≡ 10 = omega (arith, c .before .before .before .before .if1 .left) in (
+      ten-code (a .form) (a .packet .now) _ (length (a .user .now)) (length (a .out .now)) ten found,
+      ten-bytes (a .form) (a .packet .now) _ (a .user .now) (a .out .now) ten found,
+    )
+
+pub write-spec : {M : Type 1} → statement M
+write-spec =
+    tie.close
+    (tie.spec
+    returns
+    (λ c. search needs) (λ c κs. search needs)
+    (λ c. search needs) (λ c. search needs) (λ c. search needs) (λ c. search needs)
+    (λ c κs. search needs)
+    (λ c. search needs) (λ c. search needs)
+    returns-2
+    returns-3)

@@ -1,0 +1,185 @@
+// Frames for callers that are not written in Rattle: a form is a number, a packet is ten lent bytes, and an answer is one number, the refusal number in
+// its low byte and its values above.
+ghost use mathlib.Core.Path.{_≡_};
+ghost use mathlib.Core.List.{_∷_};
+ghost use Prim.Native.Nat.{_≤_};
+ghost use lib.ListN.{length, getD, drop};
+ghost use Rattle.frame_bytes.specs.Stored.{packetBytes, kindAt, flagsFit, writtenCode, writeCodeBy, writeCode, writeBytesBy, writeBytes, readCode, readBytes};
+ghost use Rattle.frame.specs.Packets.{packetOf, flag as bitOf};
+use codec::Written;
+use form::Form;
+use frame::ClearConfirmation;
+use frame::ClearRequest;
+use frame::Data;
+use frame::Found;
+use frame::Kind;
+use frame::Packet;
+use frame::Read;
+use sequence::LinkNumber;
+use sequence::PacketNumber;
+
+// ---- a packet from its bytes
+
+// The kind that a number names.
+fn kind_at(n: u8) -> Found
+    ensures { λ r. ⌜ r ≡ kindAt n ⌝ }
+{
+    if n == 0 {
+        Found::Known(Kind::Data)
+    } else if n == 1 {
+        Found::Known(Kind::ClearRequest)
+    } else if n == 2 {
+        Found::Known(Kind::ClearConfirmation)
+    } else {
+        Found::Unknown
+    }
+}
+
+// Whether the flags of a packet are 0 or 1.
+fn flags_fit(kind: Kind, values: &[u8]) -> bool
+    requires { ⌜ length (now values) ≡ 9 ⌝ }
+    ensures { λ r. ⌜ r ≡ flagsFit kind (now (values .entry)) ⌝ }
+{
+    match kind {
+        Kind::Data => values[0] <= 1,
+        Kind::ClearRequest => values[7] <= 1 && values[8] <= 1,
+        Kind::ClearConfirmation => true,
+    }
+}
+
+// The packet of a kind that has these values.
+fn packet_of(kind: Kind, values: &[u8]) -> Packet
+    requires { ⌜ length (now values) ≡ 9 ⌝ }
+    ensures { λ r. ⌜ r ≡ packetOf kind (now (values .entry)) ⌝ }
+{
+    match kind {
+        Kind::Data => Packet::Data(Data {
+            m: values[0] == 1,
+            sn: LinkNumber(values[1]),
+            ps: PacketNumber(values[2]),
+            pr: PacketNumber(values[3]),
+            ch: values[4],
+        }),
+        Kind::ClearRequest => Packet::ClearRequest(ClearRequest {
+            tc: values[0],
+            sn: LinkNumber(values[1]),
+            ch: values[2],
+            am: values[3],
+            ag: values[4],
+            cc: values[5],
+            dc: values[6],
+            s: values[7] == 1,
+            f: values[8] == 1,
+        }),
+        Kind::ClearConfirmation => Packet::ClearConfirmation(ClearConfirmation {
+            tc: values[0],
+            sn: LinkNumber(values[1]),
+            ch: values[2],
+            am: values[3],
+            ag: values[4],
+        }),
+    }
+}
+
+// ---- writing
+
+// Writes a packet of a known kind as one frame to the front of lent output.
+fn write_known(form: u8, kind: Kind, values: &[u8], user: &[u8], out: &mut [u8]) -> u64
+    requires { ⌜ length (now values) ≡ 9 ⌝ }
+    ensures { λ r. ⌜ r ≡ writeCodeBy (Found.Known kind) form (now (values .entry)) (length (now (user .entry))) (length (now (out .entry))) ⌝ }
+    ensures written { λ _. ⌜ now (out .exit) ≡ writeBytesBy (Found.Known kind) form (now (values .entry)) (now (user .entry)) (now (out .entry)) ⌝ }
+{
+    if flags_fit(kind, values) {
+        let written = frame::write_frame(
+            Form::from_number(form),
+            packet_of(kind, values),
+            user,
+            out,
+        );
+        match written {
+            Written::Done(n) => 256 * n as u64,
+            Written::Refused(why) => why.number() as u64,
+        }
+    } else {
+        1
+    }
+}
+
+// Writes a packet and its user data as one frame to the front of lent output. The answer has the refusal number in its low byte, and the frame's length
+// above it.
+pub fn write(form: u8, packet: &[u8], user: &[u8], out: &mut [u8]) -> u64
+    ensures { λ r. ⌜ r ≡ writeCode form (now (packet .entry)) (length (now (user .entry))) (length (now (out .entry))) ⌝ }
+    ensures written { λ _. ⌜ now (out .exit) ≡ writeBytes form (now (packet .entry)) (now (user .entry)) (now (out .entry)) ⌝ }
+{
+    if packet.len() != 10 {
+        return 14;
+    }
+    let found = kind_at(packet[0]);
+    match found {
+        Found::Known(kind) => write_known(form, kind, &packet[1..], user, out),
+        Found::Unknown => 1,
+    }
+}
+
+// ---- reading
+
+// A flag's byte.
+fn flag(set: bool) -> u8
+    ensures { λ r. ⌜ r ≡ bitOf set ⌝ }
+{
+    if set { 1 } else { 0 }
+}
+
+// Writes a packet into its ten bytes.
+fn put_packet(bytes: &mut [u8], packet: Packet)
+    requires { ⌜ length (now bytes) ≡ 10 ⌝ }
+    ensures { λ _. ⌜ now (bytes .exit) ≡ packetBytes packet ⌝ }
+{
+    let all = bytes_of(packet);
+    let mut i = 0;
+    while i < 10 {
+        bytes[i] = all[i];
+        i = i + 1;
+    }
+}
+
+// The ten bytes of a packet.
+fn bytes_of(packet: Packet) -> [u8; 10]
+    ensures { λ r. ⌜ r ≡ packetBytes packet ⌝ }
+{
+    match packet {
+        Packet::Data(d) => [0, flag(d.m), d.sn.0, d.ps.0, d.pr.0, d.ch, 0, 0, 0, 0],
+        Packet::ClearRequest(d) => [
+            1,
+            d.tc,
+            d.sn.0,
+            d.ch,
+            d.am,
+            d.ag,
+            d.cc,
+            d.dc,
+            flag(d.s),
+            flag(d.f),
+        ],
+        Packet::ClearConfirmation(d) => [2, d.tc, d.sn.0, d.ch, d.am, d.ag, 0, 0, 0, 0],
+    }
+}
+
+// Reads a frame, and writes its packet into ten lent bytes. The answer has the refusal number in its low byte, above it where the user data starts in the
+// frame, and above that its length.
+pub fn read(form: u8, frame: &[u8], packet: &mut [u8]) -> u64
+    ensures { λ r. ⌜ r ≡ readCode form (now (frame .entry)) (length (now (packet .entry))) ⌝ }
+    ensures written { λ _. ⌜ now (packet .exit) ≡ readBytes form (now (frame .entry)) (now (packet .entry)) ⌝ }
+{
+    if packet.len() != 10 {
+        return 14;
+    }
+    let read = frame::read_frame(Form::from_number(form), frame);
+    match read {
+        Read::Packet(found, user) => {
+            put_packet(packet, found);
+            256 * (user.at as u64 + 256 * user.len as u64)
+        }
+        Read::Refused(why) => why.number() as u64,
+    }
+}

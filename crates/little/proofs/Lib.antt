@@ -1,0 +1,2 @@
+-- What is proved of numbers in bytes.
+pub mod Little

@@ -1,0 +1,3 @@
+-- Numbers in bytes, the lowest byte first, and their law.
+pub mod Little
+pub mod Law

@@ -1,0 +1,1 @@
+// Numbers in bytes, the lowest byte first; definitions and laws, no code.

@@ -1,0 +1,3 @@
+-- What the contracts of `message_bytes` cite, and what is claimed of refusals.
+pub mod Answers
+pub mod Claims

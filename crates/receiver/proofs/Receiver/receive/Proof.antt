@@ -1,0 +1,27 @@
+-- `receiver::Receiver::receive` meets its contract: the verdict tells which case of `receiveOf` holds.
+-- Assumes nothing.
+use mathlib.Core.Path.{sym, _∙_}
+use borrow.Author.Needs.{needs}
+use Rattle.receiver.specs.Receiving.{receiveOf}
+use Rattle.receiver.proofs.Receiver.receive.Statement.{statement}
+use Rattle.receiver.proofs.Receiver.receive.Tie as tie
+
+returns : tie.Need-returns
+unfolding receiveOf
+returns c = simp (sym (c .before .before .before .before .check-receive .ensures) ∙ c .before .before .enum-told .given .1, c .before .one-more .ensures, c .next .ensures)
+
+returns-2 : tie.Need-returns-2
+unfolding receiveOf
+returns-2 c = simp (sym (c .before .before .before .check-receive .ensures) ∙ c .before .verdict .given .1)
+
+pub receive-spec : {M : Type 1} → statement M
+receive-spec =
+    tie.close
+    (tie.spec
+    (λ c κs. search needs)
+    (λ c. search needs)
+    (λ c κs. search needs)
+    (λ c κs. search needs)
+    (λ c. search needs)
+    returns
+    returns-2)

@@ -1,0 +1,18 @@
+-- `receiver::Receiver::tell` meets its contract: the one test decides.
+-- Assumes nothing.
+use mathlib.Core.Path.{sym, _∙_}
+use borrow.Author.Needs.{needs}
+use Rattle.receiver.specs.Receiving.{tellOf}
+use Rattle.receiver.proofs.Receiver.tell.Statement.{statement}
+use Rattle.receiver.proofs.Receiver.tell.Tie as tie
+
+returns : tie.Need-returns
+unfolding tellOf
+returns c = simp (sym (c .before .in-order .ensures) ∙ c .if1 .taken)
+
+returns-2 : tie.Need-returns-2
+unfolding tellOf
+returns-2 c = simp (sym (c .before .in-order .ensures) ∙ c .if1 .left)
+
+pub tell-spec : {M : Type 1} → statement M
+tell-spec = tie.close (tie.spec (λ c κs. search needs) returns returns-2)

@@ -1,0 +1,2 @@
+-- What the contracts of `receiver` cite.
+pub mod Receiving

@@ -1,0 +1,31 @@
+-- The refusal numbers are few, a line a case: they fit the low byte of an answer that is one number.
+-- Assumes nothing.
+use mathlib.Core.Path.{_≡_}
+use Prim.Native.Nat.{ℕ, _+_, _*_, _/_, _%_, _≤_}
+use native.Mathlib.Omega.{arith}
+use Rattle.refusal.specs.declared.Refusal.{Refusal}
+use Rattle.refusal.specs.declared.Refusal.the-variants.{OutOfRange, Malformed, FormatError, MessageTooLong, OutputTooShort, RouteListMalformed, NoClock, NoInterrogator, WindowClosed, OutsideWindow, OutOfSequence, FirstNotZero, PacketTooLong, NotInOrder, AllFailed, NeverSent, RunBroken}
+use Rattle.refusal.specs.Numbers.{numberOf}
+
+pub number-range : (why : Refusal) → (1 ≤ numberOf why) × (numberOf why ≤ 17)
+number-range OutOfRange = omega arith
+number-range Malformed = omega arith
+number-range FormatError = omega arith
+number-range MessageTooLong = omega arith
+number-range OutputTooShort = omega arith
+number-range RouteListMalformed = omega arith
+number-range NoClock = omega arith
+number-range NoInterrogator = omega arith
+number-range WindowClosed = omega arith
+number-range OutsideWindow = omega arith
+number-range OutOfSequence = omega arith
+number-range FirstNotZero = omega arith
+number-range PacketTooLong = omega arith
+number-range NotInOrder = omega arith
+number-range AllFailed = omega arith
+number-range NeverSent = omega arith
+number-range RunBroken = omega arith
+
+-- nothing stands above a refusal's number
+pub number-alone : (why : Refusal) → numberOf why / 256 ≡ 0
+number-alone why = omega (arith, number-range why .1)

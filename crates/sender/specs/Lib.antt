@@ -1,0 +1,2 @@
+-- What the contracts of `sender` cite.
+pub mod Sending
