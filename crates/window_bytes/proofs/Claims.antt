@@ -1,0 +1,119 @@
+-- The claims hold. What is stored comes back by the laws of encoding. A refused call of an end hands the end back and no value, so that its bytes are
+-- written as they were; other bytes are not written at all.
+-- Assumes nothing.
+use mathlib.Core.Path.{_≡_, refl, ap, _∙_, subst}
+use mathlib.Core.Bool.{Bool, true, false, cond}
+use mathlib.Core.List.{List}
+use mathlib.Core.Logic.{_≢_}
+use Prim.Native.Nat.{ℕ, _≤_}
+use native.Mathlib.Omega.{arith}
+use lib.Dec.{eqb, lit≤}
+use lib.ListN.{length}
+use Rattle.refusal.specs.declared.Refusal.{Refusal}
+use Rattle.refusal.specs.declared.Refusal.the-variants.{NotInOrder}
+use Rattle.refusal.specs.declared.Verdict.{Verdict}
+use Rattle.refusal.specs.declared.Verdict.the-variants.{Done, Refused}
+use Rattle.refusal.specs.Numbers.{numberOf, verdictNumber}
+use Rattle.refusal.proofs.Numbers.{number-range}
+use Rattle.sender.specs.declared.Grant.{Grant}
+use Rattle.sender.specs.declared.Grant.the-variants.{Granted, Refused as NotGranted}
+use Rattle.sender.specs.Sending.{grantNumber, grantPs, sendOf, acknowledgeOf}
+use Rattle.receiver.specs.declared.Receipt.{Receipt}
+use Rattle.receiver.specs.declared.Receipt.the-variants.{Taken, Refused as NotTaken}
+use Rattle.receiver.specs.declared.Telling.{Telling}
+use Rattle.receiver.specs.declared.Telling.the-variants.{Tell, Refused as NotTold}
+use Rattle.receiver.specs.Receiving.{receiptNumber, receiptDue, receiveOf, tellingNumber, tellingPr, tellOf}
+use Rattle.window.proofs.Refusing.{refusals-change-nothing as ends-unchanged}
+use Rattle.window_bytes.specs.Stored.{code, flag, isSender, senderIn, senderBytes, grantCode, isReceiver, receiverIn, receiverBytes, receiptCode, tellingCode, freshSenderCode, freshSenderBytes, sendCode, sendBytes, acknowledgeCode, acknowledgeBytes, freshReceiverCode, freshReceiverBytes, receiveCode, receiveBytes, tellCode, tellBytes}
+use Rattle.window_bytes.specs.Claims.{RoundTrips, Unchanged, RefusalsChangeNothing}
+use Rattle.window_bytes.proofs.Stored.{sender-encoded, sender-bytes-back, receiver-encoded, receiver-back, receiver-bytes-back}
+
+pub round-trips : RoundTrips
+round-trips = record {
+  sender-encoded = sender-encoded;
+  sender-back = λ s. refl;
+  sender-bytes-back = sender-bytes-back;
+  receiver-encoded = receiver-encoded;
+  receiver-back = receiver-back;
+  receiver-bytes-back = receiver-bytes-back;
+}
+
+-- ---- the numbers are below 256
+
+verdict-small : (v : Verdict) → verdictNumber v ≤ 17
+verdict-small Done = lit≤ tt
+verdict-small (Refused why) = number-range why .1
+
+grant-small : (g : Grant) → grantNumber g ≤ 17
+grant-small (Granted ps) = lit≤ tt
+grant-small (NotGranted why) = number-range why .1
+
+receipt-small : (r : Receipt) → receiptNumber r ≤ 17
+receipt-small (Taken due) = lit≤ tt
+receipt-small (NotTaken why) = number-range why .1
+
+telling-small : (t : Telling) → tellingNumber t ≤ 17
+telling-small (Tell pr) = lit≤ tt
+telling-small (NotTold why) = number-range why .1
+
+-- ---- refusals
+
+-- a refusal told in its parts is one told by the answer
+unchanged : (number value : ℕ) (after before : List ℕ) → number ≤ 17 → (number ≢ 0 → (value ≡ 0) × (after ≡ before))
+    → Unchanged (code number value) after before
+unchanged number value after before small told h =
+    let k = told (λ (z : number ≡ 0). h (omega arith)) in (omega (arith, k .0), k .1)
+
+-- bytes that fail the call's test are refused with 14 and stay
+tested : (t : Bool) (answer : ℕ) (bytes b : List ℕ) → (t ≡ true → Unchanged answer bytes b) → Unchanged (cond t answer 14) (cond t bytes b) b
+tested true answer bytes b told = told refl
+tested false answer bytes b told = λ h. (refl, refl)
+
+-- a fresh end is refused by that test only
+fresh : (t : Bool) (bytes b : List ℕ) → Unchanged (cond t 0 14) (cond t bytes b) b
+fresh t bytes b = tested t 0 bytes b (λ e h. absurd (h refl))
+
+send : (b : List ℕ) → Unchanged (sendCode b) (sendBytes b) b
+unfolding sendCode sendBytes
+send b =
+    let a = sendOf (senderIn b) in
+    tested (isSender b) (grantCode (a .answer)) (senderBytes (a .end)) b (λ e.
+    unchanged (grantNumber (a .answer)) (grantPs (a .answer)) (senderBytes (a .end)) b (grant-small (a .answer)) (λ z.
+    let k = ends-unchanged .send (senderIn b) z in (k .0, ap senderBytes (k .1) ∙ sender-bytes-back b e)))
+
+acknowledge : (b : List ℕ) (pr : ℕ) → Unchanged (acknowledgeCode b pr) (acknowledgeBytes b pr) b
+unfolding acknowledgeCode acknowledgeBytes
+acknowledge b pr =
+    let a = acknowledgeOf (senderIn b) pr in
+    let none : code (verdictNumber (a .verdict)) 0 ≡ verdictNumber (a .verdict) = omega arith in
+    tested (isSender b) (verdictNumber (a .verdict)) (senderBytes (a .end)) b (λ e.
+    subst (λ (n : ℕ). Unchanged n (senderBytes (a .end)) b) none
+    (unchanged (verdictNumber (a .verdict)) 0 (senderBytes (a .end)) b (verdict-small (a .verdict)) (λ z.
+    (refl, ap senderBytes (ends-unchanged .acknowledge (senderIn b) pr z) ∙ sender-bytes-back b e))))
+
+receive : (b : List ℕ) (ps : ℕ) → Unchanged (receiveCode b ps) (receiveBytes b ps) b
+unfolding receiveCode receiveBytes
+receive b ps =
+    let a = receiveOf (receiverIn b) ps in
+    tested (isReceiver b) (receiptCode (a .answer)) (receiverBytes (a .end)) b (λ e.
+    unchanged (receiptNumber (a .answer)) (flag (receiptDue (a .answer))) (receiverBytes (a .end)) b (receipt-small (a .answer)) (λ z.
+    let k = ends-unchanged .receive (receiverIn b) ps z in (ap flag (k .0), ap receiverBytes (k .1) ∙ receiver-bytes-back b e)))
+
+tell : (b : List ℕ) → Unchanged (tellCode b) (tellBytes b) b
+unfolding tellCode tellBytes
+tell b =
+    let a = tellOf (receiverIn b) in
+    tested (isReceiver b) (tellingCode (a .answer)) (receiverBytes (a .end)) b (λ e.
+    unchanged (tellingNumber (a .answer)) (tellingPr (a .answer)) (receiverBytes (a .end)) b (telling-small (a .answer)) (λ z.
+    let k = ends-unchanged .tell (receiverIn b) z in (k .0, ap receiverBytes (k .1) ∙ receiver-bytes-back b e)))
+
+pub refusals-change-nothing : RefusalsChangeNothing
+unfolding freshSenderCode freshSenderBytes freshReceiverCode freshReceiverBytes
+refusals-change-nothing = record {
+  sender-fresh = λ b. fresh (isSender b) _ b;
+  send = send;
+  acknowledge = acknowledge;
+  receiver-fresh = λ b. fresh (eqb (length b) 3) _ b;
+  receive = receive;
+  tell = tell;
+}

@@ -1,0 +1,4 @@
+-- What is proved of the ends in lent bytes.
+
+pub mod Stored
+pub mod Claims

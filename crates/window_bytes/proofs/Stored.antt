@@ -1,0 +1,88 @@
+-- Encoding and decoding undo each other: a list of the right length is its bytes, and a mark is its number.
+-- Assumes nothing.
+use mathlib.Core.Path.{_≡_, refl, ap, _∙_}
+use mathlib.Core.Bool.{Bool, true, false}
+use mathlib.Core.List.{List, [], _∷_}
+use Prim.Native.Nat.{ℕ, zero, suc, _≤_}
+use native.Mathlib.Omega.{arith}
+use lib.Dec.{leb, eqb}
+use lib.ListN.{length, getD, set}
+use borrow.Author.Tests.{leb-true, eqb-true}
+use Rattle.refusal.proofs.Checks.{both-true}
+use Rattle.sender.specs.declared.Sender.{Sender}
+use Rattle.receiver.specs.declared.Receiver.{Receiver}
+use Rattle.window_bytes.specs.Stored.{flag, isSender, senderIn, senderBytes, isReceiver, receiverIn, receiverBytes}
+
+-- ---- lists of 2 and of 3
+
+pub two-written : (b : List ℕ) (x y : ℕ) → length b ≡ 2 → set (set b 0 x) 1 y ≡ x ∷ y ∷ []
+two-written [] x y h = absurd (omega arith)
+two-written (a ∷ []) x y h = absurd (omega arith)
+two-written (a ∷ c ∷ []) x y h = refl
+two-written (a ∷ c ∷ d ∷ b) x y h = absurd (omega arith)
+
+pub three-written : (b : List ℕ) (x y z : ℕ) → length b ≡ 3 → set (set (set b 0 x) 1 y) 2 z ≡ x ∷ y ∷ z ∷ []
+three-written [] x y z h = absurd (omega arith)
+three-written (a ∷ []) x y z h = absurd (omega arith)
+three-written (a ∷ c ∷ []) x y z h = absurd (omega arith)
+three-written (a ∷ c ∷ d ∷ []) x y z h = refl
+three-written (a ∷ c ∷ d ∷ e ∷ b) x y z h = absurd (omega arith)
+
+two-read : (b : List ℕ) → length b ≡ 2 → getD b 0 0 ∷ getD b 1 0 ∷ [] ≡ b
+two-read [] h = absurd (omega arith)
+two-read (a ∷ []) h = absurd (omega arith)
+two-read (a ∷ c ∷ []) h = refl
+two-read (a ∷ c ∷ d ∷ b) h = absurd (omega arith)
+
+three-read : (b : List ℕ) → length b ≡ 3 → getD b 0 0 ∷ getD b 1 0 ∷ getD b 2 0 ∷ [] ≡ b
+three-read [] h = absurd (omega arith)
+three-read (a ∷ []) h = absurd (omega arith)
+three-read (a ∷ c ∷ []) h = absurd (omega arith)
+three-read (a ∷ c ∷ d ∷ []) h = refl
+three-read (a ∷ c ∷ d ∷ e ∷ b) h = absurd (omega arith)
+
+-- ---- the sending end
+
+pub sender-length : (b : List ℕ) → isSender b ≡ true → length b ≡ 2
+unfolding isSender
+sender-length b h = eqb-true (length b) 2 h
+
+pub sender-encoded : (s : Sender) → isSender (senderBytes s) ≡ true
+unfolding isSender
+sender-encoded s = refl
+
+pub sender-bytes-back : (b : List ℕ) → isSender b ≡ true → senderBytes (senderIn b) ≡ b
+sender-bytes-back b h = two-read b (sender-length b h)
+
+-- ---- the receiving end
+
+pub receiver-length : (b : List ℕ) → isReceiver b ≡ true → length b ≡ 3
+unfolding isReceiver
+receiver-length b h = eqb-true (length b) 3 (both-true (eqb (length b) 3) (leb (getD b 1 0) 1) h .0)
+
+-- a mark that is 0 or 1 is the number of whether it is 1
+flag-back : (n : ℕ) → n ≤ 1 → flag (eqb n 1) ≡ n
+flag-back zero h = refl
+flag-back (suc zero) h = refl
+flag-back (suc (suc n)) h = absurd (omega arith)
+
+flag-read : (b : Bool) → eqb (flag b) 1 ≡ b
+flag-read true = refl
+flag-read false = refl
+
+pub receiver-encoded : (r : Receiver) → isReceiver (receiverBytes r) ≡ true
+unfolding isReceiver
+receiver-encoded r = ok (r .first)
+  where
+    ok : (b : Bool) → leb (flag b) 1 ≡ true
+    ok true = refl
+    ok false = refl
+
+pub receiver-back : (r : Receiver) → receiverIn (receiverBytes r) ≡ r
+receiver-back r = ap (λ (b : Bool). record { expected = r .expected; first = b; untold = r .untold }) (flag-read (r .first))
+
+pub receiver-bytes-back : (b : List ℕ) → isReceiver b ≡ true → receiverBytes (receiverIn b) ≡ b
+unfolding isReceiver
+receiver-bytes-back b h =
+    let small : getD b 1 0 ≤ 1 = leb-true (getD b 1 0) 1 (both-true (eqb (length b) 3) (leb (getD b 1 0) 1) h .1) in
+    ap (λ (m : ℕ). getD b 0 0 ∷ m ∷ getD b 2 0 ∷ []) (flag-back (getD b 1 0) small) ∙ three-read b (receiver-length b h)
