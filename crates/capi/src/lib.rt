@@ -211,12 +211,7 @@ pub extern "C" fn pk_message_cut(
 
 // Joins DATA frames to the message that they carry.
 #[no_mangle]
-pub extern "C" fn pk_message_join(
-    form: u8,
-    lengths: &[usize],
-    frames: &[u8],
-    out: &mut [u8],
-) -> u64
+pub extern "C" fn pk_message_join(form: u8, lengths: &[usize], frames: &[u8], out: &mut [u8]) -> u64
     ensures { λ r. ⌜ r ≡ joinedCode (joinOf (formAt form) (now (lengths .entry)) (now (frames .entry)) (length (now (out .entry)))) ⌝ }
     ensures { λ _. ⌜ now (out .exit) ≡ joinOutput (formAt form) (now (lengths .entry)) (now (frames .entry)) (now (out .entry)) ⌝ }
 {

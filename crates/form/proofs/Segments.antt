@@ -20,13 +20,13 @@ unfolding lastUsed
 used-range seg n some = omega (arith, padding-below seg n some)
 
 -- the padding of r bytes past full segments
-padding-none : (seg n : ℕ) → 1 ≤ seg → n % seg ≡ 0 → padding seg n ≡ 0
+pub padding-none : (seg n : ℕ) → 1 ≤ seg → n % seg ≡ 0 → padding seg n ≡ 0
 unfolding padding
 padding-none seg n some e =
     let z : seg - n % seg ≡ seg = omega (arith, e) in
     ap (λ (x : ℕ). x % seg) z ∙ mod-self seg
 
-padding-some : (seg n : ℕ) → 1 ≤ seg → 1 ≤ n % seg → padding seg n ≡ seg - n % seg
+pub padding-some : (seg n : ℕ) → 1 ≤ seg → 1 ≤ n % seg → padding seg n ≡ seg - n % seg
 unfolding padding
 padding-some seg n some e = mod-eq-of-lt (omega (arith, mod-lt n some))
 

@@ -1,6 +1,6 @@
 // The forms of a frame, and how a packet's bytes fill their segments (document 01, "Forms and frames").
 ghost use mathlib.Core.Path.{_≡_};
-ghost use Prim.Native.Nat.{_≤_};
+ghost use Prim.Native.Nat.{_%_, _≤_};
 ghost use Rattle.form.specs.Forms.{segOf, mostOf, formGood, formAt};
 ghost use Rattle.form.specs.Segments.{padding, lastUsed, wholeSegments};
 
@@ -60,13 +60,24 @@ impl Form {
         }
     }
 
+    // The bytes that n bytes have past their last whole segment. A processor divides by a number that is known beforehand far quicker than by any.
+    fn past_segment(self, n: usize) -> usize
+        ensures { λ r. ⌜ r ≡ n % segOf self ⌝ }
+    {
+        match self {
+            Form::ShortUplink => n % 7,
+            Form::LongUplink => n % 10,
+            Form::LongDownlink(_n) => n % 10,
+        }
+    }
+
     // The zero bytes that fill n bytes up to whole segments.
     pub fn padding(self, n: usize) -> usize
         ensures { λ r. ⌜ r ≡ padding (segOf self) n ⌝ }
         ensures few { λ r. ⌜ r ≤ 9 ⌝ }
     {
-        let segment = self.segment();
-        (segment - n % segment) % segment
+        let past = self.past_segment(n);
+        if past == 0 { 0 } else { self.segment() - past }
     }
 
     // LV of a packet of n bytes: those used in its last segment.
@@ -82,6 +93,6 @@ impl Form {
     pub fn is_whole(self, len: usize) -> bool
         ensures { λ r. ⌜ r ≡ wholeSegments (segOf self) len ⌝ }
     {
-        1 <= len && len % self.segment() == 0
+        1 <= len && self.past_segment(len) == 0
     }
 }

@@ -1,2 +1,4 @@
 -- What is proved of numbers in bytes.
 pub mod Little
+pub mod Words
+pub mod Places

@@ -1,0 +1,117 @@
+-- Numbers in bytes by their places, and what is left when they are written over lent memory.
+-- Assumes nothing.
+use mathlib.Core.Path.{_≡_, refl, sym, ap, ap₂, _∙_}
+use mathlib.Core.List.{List, [], _∷_, _++_, append-assoc, append-nil}
+use Prim.Native.Nat.{ℕ, zero, suc, _+_, _-_, _*_, _/_, _%_, _≤_, _<_}
+use native.Mathlib.Nat.{add-zero}
+use native.Mathlib.Numerals.{add-one}
+use native.Mathlib.Omega.{arith}
+use lib.ListN.{length, getD, set, take, drop, length-set}
+use lib.Seq.{take-suc, take-add, take-at, drop-at, drop-cons, drop-drop, getD-drop, set-at, append-snoc, paste, paste-zero, paste-suc, take-paste, drop-paste}
+use Rattle.little.specs.Little.{littleOf, littleBytes, littleList, listBytes}
+use Rattle.little.proofs.Little.{length-bytes}
+
+-- ---- a list of numbers by its places
+
+pub list-at : (k n : ℕ) (bs : List ℕ) (i : ℕ) → i < n → getD (littleList k n bs) i 0 ≡ littleOf (take k (drop (i * k) bs))
+unfolding littleList
+list-at k zero bs i h = absurd (omega arith)
+list-at k (suc n) bs zero h =
+    let z : 0 * k ≡ 0 = omega arith in
+    ap (λ (j : ℕ). littleOf (take k (drop j bs))) (sym z)
+list-at k (suc n) bs (suc i) h =
+    let e : k + i * k ≡ suc i * k = omega arith in
+    list-at k n (drop k bs) i (omega arith) ∙ ap (λ (l : List ℕ). littleOf (take k l)) (drop-drop (i * k) k bs ∙ ap (λ (j : ℕ). drop j bs) e)
+
+-- one byte, and the number that those after it write
+pub byte-first : (k n : ℕ) (bs : List ℕ) → n < length bs → littleOf (take (suc k) (drop n bs)) ≡ getD bs n 0 + 256 * littleOf (take k (drop (n + 1) bs))
+unfolding littleOf
+byte-first k n bs h = rw (add-one, drop-cons bs n 0)
+
+pub drop-listBytes : (k : ℕ) (xs : List ℕ) (i : ℕ) → i ≤ length xs → drop (i * k) (listBytes k xs) ≡ listBytes k (drop i xs)
+unfolding listBytes
+drop-listBytes k xs zero h =
+    let z : 0 * k ≡ 0 = omega arith in
+    ap (λ (j : ℕ). drop j (listBytes k xs)) z
+drop-listBytes k [] (suc i) h = absurd (omega arith)
+drop-listBytes k (x ∷ xs) (suc i) h =
+    let e : suc i * k ≡ k + i * k = omega arith in
+    ap (λ (j : ℕ). drop j (littleBytes k x ++ listBytes k xs)) e
+    ∙ sym (drop-drop (i * k) k (littleBytes k x ++ listBytes k xs))
+    ∙ ap (drop (i * k)) (drop-at (littleBytes k x) (listBytes k xs) k (length-bytes k x))
+    ∙ drop-listBytes k xs i (omega arith)
+
+pub list-append : (k : ℕ) (xs ys : List ℕ) → listBytes k (xs ++ ys) ≡ listBytes k xs ++ listBytes k ys
+unfolding listBytes
+list-append k [] ys = refl
+list-append k (x ∷ xs) ys =
+    ap (λ (l : List ℕ). littleBytes k x ++ l) (list-append k xs ys) ∙ sym (append-assoc (littleBytes k x) (listBytes k xs) (listBytes k ys))
+
+-- one number more
+pub list-next : (k i : ℕ) (xs : List ℕ) → i < length xs → listBytes k (take (i + 1) xs) ≡ listBytes k (take i xs) ++ littleBytes k (getD xs i 0)
+unfolding listBytes
+list-next k i xs h =
+    ap (λ (m : ℕ). listBytes k (take m xs)) (add-one i)
+    ∙ ap (listBytes k) (take-suc xs i 0 h)
+    ∙ list-append k (take i xs) (getD xs i 0 ∷ [])
+    ∙ ap (λ (l : List ℕ). listBytes k (take i xs) ++ l) (append-nil (littleBytes k (getD xs i 0)))
+
+-- one byte more over the front of lent memory
+pub put-next : (p out : List ℕ) (n b : ℕ) → length p ≡ n → n < length out → set (p ++ drop n out) n b ≡ (p ++ (b ∷ [])) ++ drop (n + 1) out
+put-next p out n b e h =
+    ap (λ (l : List ℕ). set (p ++ l) n b) (drop-cons out n 0 h)
+    ∙ set-at p (getD out n 0) (drop (suc n) out) b n e
+    ∙ ap (λ (m : ℕ). p ++ (b ∷ drop m out)) (sym (add-one n))
+    ∙ sym (append-snoc p b (drop (n + 1) out))
+
+-- ---- memory written part by part
+
+-- the m elements after the n that were pasted
+pub paste-more : (d s t : List ℕ) (at n m : ℕ) → at ≤ length d → n ≤ length s → take m t ≡ take m (drop n s)
+    → paste (paste d at s n) (at + n) t m ≡ paste d at s (n + m)
+paste-more d s t at n m hd hs e =
+    let sum : at + n + m ≡ at + (n + m) = omega arith in
+    ap₂ (λ (x y : List ℕ). x ++ take m t ++ y) (take-paste d at s n hd hs)
+    (sym (drop-drop m (at + n) (paste d at s n)) ∙ ap (drop m) (drop-paste d at s n hd hs) ∙ drop-drop m (at + n) d)
+    ∙ ap (λ (x : List ℕ). take at d ++ take n s ++ x ++ drop (at + n + m) d) e
+    ∙ ap (λ (x : List ℕ). x ++ drop (at + n + m) d) (append-assoc (take at d) (take n s) (take m (drop n s)) ∙ ap (λ (x : List ℕ). take at d ++ x) (sym (take-add n m s)))
+    ∙ ap (λ (j : ℕ). take at d ++ take (n + m) s ++ drop j d) sum
+
+-- ---- the loop that writes n in k bytes from index at: i bytes are written, and `rest` is the number of those to come
+
+pub record Putting (out₀ : List ℕ) (at k n : ℕ) (out : List ℕ) (i rest : ℕ) : Type 0 where
+  pub left : ℕ
+  pub split : i + left ≡ k
+  pub long : length out ≡ length out₀
+  pub coming : drop i (littleBytes k n) ≡ littleBytes left rest
+  pub written : out ≡ paste out₀ at (littleBytes k n) i
+
+module _ (out₀ : List ℕ) (at k n : ℕ) (room : at + k ≤ length out₀) where
+  pub put-starts : Putting out₀ at k n out₀ 0 n
+  put-starts = record {
+    left = k;
+    split = omega arith;
+    long = refl;
+    coming = refl;
+    written = paste-zero out₀ at (littleBytes k n);
+  }
+
+  pub put-turns : (out : List ℕ) (i rest : ℕ) → i < k → Putting out₀ at k n out i rest → Putting out₀ at k n (set out (at + i) (rest % 256)) (i + 1) (rest / 256)
+  put-turns out i rest h p = go (p .left) (p .split) (p .coming)
+    where
+      go : (r : ℕ) → i + r ≡ k → drop i (littleBytes k n) ≡ littleBytes r rest → Putting out₀ at k n (set out (at + i) (rest % 256)) (i + 1) (rest / 256)
+      go zero e c = absurd (omega arith)
+      go (suc r) e c =
+          let c′ : drop i (littleBytes k n) ≡ rest % 256 ∷ littleBytes r (rest / 256) = c ∙ unfold littleBytes in refl in
+          let first : getD (littleBytes k n) i 0 ≡ rest % 256 =
+          ap (λ (j : ℕ). getD (littleBytes k n) j 0) (sym (add-zero i)) ∙ sym (getD-drop i (littleBytes k n) 0 0) ∙ ap (λ (l : List ℕ). getD l 0 0) c′ in
+          record {
+            left = r;
+            split = omega arith;
+            long = length-set out (at + i) (rest % 256) ∙ p .long;
+            coming = sym (drop-drop 1 i (littleBytes k n)) ∙ ap (drop 1) c′;
+            written =
+                ap₂ (λ (x : List ℕ) (y : ℕ). set x (at + i) y) (p .written) (sym first)
+                ∙ paste-suc out₀ at (littleBytes k n) i 0 (omega arith) (omega (arith, length-bytes k n))
+                ∙ ap (paste out₀ at (littleBytes k n)) (sym (add-one i));
+          }

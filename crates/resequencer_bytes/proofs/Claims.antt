@@ -1,0 +1,90 @@
+-- The claims of the stored state: each refusal's number fits a byte, and a refused call is told by the given state.
+-- Assumes nothing.
+use mathlib.Core.Path.{_≡_, refl, sym, ap, ap₂, _∙_, subst}
+use mathlib.Core.Bool.{Bool, true, false, cond, _&&_}
+use mathlib.Core.List.{List}
+use mathlib.Core.Logic.{_≢_}
+use Prim.Native.Nat.{ℕ, _+_, _*_, _%_, _<_}
+use native.Mathlib.Omega.{arith}
+use lib.Dec.{eqb, lit<}
+use lib.ListN.{length}
+use borrow.Author.Tests.{eqb-true, ne-eqb}
+use Rattle.refusal.specs.declared.Refusal.{Refusal}
+use Rattle.refusal.specs.declared.Refusal.the-variants.{OutOfRange, Malformed, FormatError, MessageTooLong, OutputTooShort, RouteListMalformed, NoClock, NoInterrogator, WindowClosed, OutsideWindow, OutOfSequence, FirstNotZero, PacketTooLong, NotInOrder, AllFailed, NeverSent, RunBroken}
+use Rattle.refusal.specs.Numbers.{numberOf}
+use Rattle.refusal.proofs.Checks.{both-true}
+use Rattle.little.specs.Law.{Below}
+use Rattle.resequencer.specs.declared.Resequencer.{Resequencer}
+use Rattle.resequencer.specs.declared.Outcome.{Outcome}
+use Rattle.resequencer.specs.declared.Outcome.the-variants.{Held, HandedOn, Old, Duplicate, Refused}
+use Rattle.resequencer.specs.declared.Answer.{Answer}
+use Rattle.resequencer.specs.Events.{outcomeNumber, plain, arriveOf, clockEndOf}
+use Rattle.resequencer.proofs.Refusing.{refusals-change-nothing}
+use Rattle.resequencer_bytes.specs.Stored.{isState, isCall, stateIn, stateBytes, outcomeKind, answerCode, codeBy, bytesBy, ticketsBy}
+use Rattle.resequencer_bytes.specs.Claims.{StoredLaw, RefusalsWriteNothing}
+use Rattle.resequencer_bytes.proofs.Stored.{state-back, written-back}
+
+pub stored-law : StoredLaw
+stored-law = record { read-back = state-back; written-back = written-back }
+
+-- ---- refusals
+
+number-fits : (why : Refusal) → numberOf why < 256
+number-fits OutOfRange = lit< tt
+number-fits Malformed = lit< tt
+number-fits FormatError = lit< tt
+number-fits MessageTooLong = lit< tt
+number-fits OutputTooShort = lit< tt
+number-fits RouteListMalformed = lit< tt
+number-fits NoClock = lit< tt
+number-fits NoInterrogator = lit< tt
+number-fits WindowClosed = lit< tt
+number-fits OutsideWindow = lit< tt
+number-fits OutOfSequence = lit< tt
+number-fits FirstNotZero = lit< tt
+number-fits PacketTooLong = lit< tt
+number-fits NotInOrder = lit< tt
+number-fits AllFailed = lit< tt
+number-fits NeverSent = lit< tt
+number-fits RunBroken = lit< tt
+
+-- what is not refused has the lowest byte 0, and a plain refusal is its number
+low-byte : (o : Outcome) (k : ℕ) → outcomeNumber o ≡ 0 → (outcomeNumber o + 256 * outcomeKind o + 65536 * k) % 256 ≡ 0
+low-byte o k e = omega arith
+
+refused-small : (o : Outcome) → outcomeNumber o ≢ 0 → outcomeNumber o + 256 * outcomeKind o + 65536 * 0 < 256
+refused-small Held h = absurd (h refl)
+refused-small HandedOn h = absurd (h refl)
+refused-small Old h = absurd (h refl)
+refused-small Duplicate h = absurd (h refl)
+refused-small (Refused why) h = omega (arith, number-fits why)
+
+-- a refused answer is plain
+abbrev Plain : Resequencer → Answer → Type 0
+Plain s a = outcomeNumber (a .outcome) ≢ 0 → a ≡ plain (a .outcome) s
+
+abbrev Kept : Bool → Answer → List ℕ → List ℕ → Type 0
+Kept call a b out = (codeBy call a < 256) × (bytesBy call a b ≡ b) × (ticketsBy call a out ≡ out)
+
+kept : (a : Answer) (b out : List ℕ) → Below 256 b → Plain (stateIn b) a → codeBy (isCall b (length out)) a % 256 ≢ 0 → Kept (isCall b (length out)) a b out
+unfolding codeBy bytesBy ticketsBy answerCode
+kept a b out low p = go (isCall b (length out)) refl
+  where
+    go : (call : Bool) → isCall b (length out) ≡ call → codeBy call a % 256 ≢ 0 → Kept call a b out
+    go false e h = (lit< tt, refl, refl)
+    go true e h =
+        let refused : outcomeNumber (a .outcome) ≢ 0 = λ z. h (low-byte (a .outcome) (a .count) z) in
+        let same : a ≡ plain (a .outcome) (stateIn b) = p refused in
+        let count : a .count ≡ 0 = ap (λ (x : Answer). x .count) same ∙ unfold plain in refl in
+        let next : a .next ≡ stateIn b = ap (λ (x : Answer). x .next) same ∙ unfold plain in refl in
+        let long : length b ≡ 146 = eqb-true (length b) 146 (both-true (isState b) _ e .0) in (
+          subst (λ (k : ℕ). outcomeNumber (a .outcome) + 256 * outcomeKind (a .outcome) + 65536 * k < 256) (sym count) (refused-small (a .outcome) refused),
+          ap stateBytes next ∙ written-back b long low,
+          ap (λ (t : Bool). cond t (a .tickets) out) (ne-eqb (outcomeNumber (a .outcome)) 0 refused),
+        )
+
+pub refusals-write-nothing : RefusalsWriteNothing
+refusals-write-nothing = record {
+  arrival = λ b out n ticket low. kept (arriveOf (stateIn b) n ticket) b out low (refusals-change-nothing .arrival (stateIn b) n ticket);
+  clock-end = λ b out n low. kept (clockEndOf (stateIn b) n) b out low (refusals-change-nothing .clock-end (stateIn b) n);
+}

@@ -1,0 +1,6 @@
+-- What is proved of the stored state.
+pub mod Reading
+pub mod Writing
+pub mod Stored
+pub mod Calls
+pub mod Claims

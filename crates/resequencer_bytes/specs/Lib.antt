@@ -1,0 +1,3 @@
+-- What the contracts of `resequencer_bytes` cite, and what is claimed of them.
+pub mod Stored
+pub mod Claims

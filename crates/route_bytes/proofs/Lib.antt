@@ -1,0 +1,5 @@
+-- What is proved of tables in bytes.
+
+mod Bytes
+mod Cases
+pub mod Claims
