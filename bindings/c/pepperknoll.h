@@ -131,7 +131,7 @@ uint64_t pk_frame_read(uint8_t form, const uint8_t *frame, size_t frame_len, uin
 
 /* ---- messages of 0 to 4,096 bytes */
 
-#define PK_FRAMES(answer) ((size_t)((answer) >> 8 & 0xFFFF))
+#define PK_FRAMES(answer) ((size_t)((answer) >> 8 & 0xFFFFFF))
 #define PK_BYTES(answer) ((size_t)((answer) >> 32))
 
 /* Cuts a message into DATA frames, one after the other in `out`, their lengths in `lengths`; places beyond keep what they held. SN and PS count up from

@@ -1,0 +1,326 @@
+//! The measured calls: for each, the same inputs and the same resets for every version.
+
+mod version;
+
+use std::hint::black_box;
+
+use plain::frame::{self, Form, Packet};
+use plain::message::{self, Start};
+use plain::resequencer::Resequencer;
+
+use version::{Asked, Best, Library, Nothing, Plain, Version};
+
+/// Makes a call so many times; gives the sum of what the answers said.
+pub type Run = Box<dyn FnMut(u64) -> u64>;
+
+/// A call, and how each version's runs of it are made ready.
+pub struct Call {
+    pub name: &'static str,
+    pub library: fn() -> Run,
+    pub plain: fn() -> Run,
+    pub best: fn() -> Run,
+    /// The loop with an empty call.
+    #[allow(dead_code)] // times are not taken of it
+    pub nothing: fn() -> Run,
+    /// Whether a copy of the message is measured beside it.
+    pub beside_copy: bool,
+}
+
+macro_rules! calls {
+    ($($name:literal $make:ident $beside_copy:literal;)*) => {
+        /// All measured calls.
+        pub const CALLS: &[Call] = &[$(Call {
+            name: $name,
+            library: $make::<Library>,
+            plain: $make::<Plain>,
+            best: $make::<Best>,
+            nothing: $make::<Nothing>,
+            beside_copy: $beside_copy,
+        }),*];
+    };
+}
+
+calls! {
+    "arrive-in-order" arrive_in_order false;
+    "arrive-early" arrive_early false;
+    "clock-end" clock_end false;
+    "send" send false;
+    "receive" receive false;
+    "write-data" write_data false;
+    "read-data" read_data false;
+    "write-request" write_request false;
+    "read-request" read_request false;
+    "write-confirmation" write_confirmation false;
+    "read-confirmation" read_confirmation false;
+    "cut" cut true;
+    "join" join true;
+    "update" update false;
+    "choose" choose false;
+}
+
+/// Loops over one call; the sum is looked at, so that no call can be left out.
+fn looped(mut once: impl FnMut() -> u64 + 'static) -> Run {
+    Box::new(move |times| {
+        let mut sum = 0u64;
+        for _ in 0..times {
+            sum = sum.wrapping_add(once());
+        }
+        black_box(sum)
+    })
+}
+
+const TICKET: u16 = 0x1234;
+
+/// Each packet is the expected one; one ticket leaves.
+fn arrive_in_order<V: Version>() -> Run {
+    let mut state = V::resequencer(&Resequencer::fresh());
+    let (mut places, mut sn) = ([0; 32], 0);
+    looped(move || {
+        let count = V::arrive(black_box(&mut state), sn, TICKET, black_box(&mut places));
+        sn = (sn + 1) % 64;
+        count
+    })
+}
+
+/// Every number of the window but the first, by turns far and near, from NESN 50; then again
+/// from the start.
+fn arrive_early<V: Version>() -> Run {
+    let start = V::resequencer(&Resequencer {
+        nesn: 50,
+        ..Resequencer::fresh()
+    });
+    let arrivals: Vec<u8> = (1..32u8).map(|at| (50 + (at * 12) % 31 + 1) % 64).collect();
+    let (mut state, mut places, mut turn) = (start.clone(), [0; 32], 0);
+    looped(move || {
+        if turn == arrivals.len() {
+            turn = 0;
+            black_box(&mut state).clone_from(&start);
+        }
+        let sn = arrivals[turn];
+        turn += 1;
+        V::arrive(black_box(&mut state), sn, TICKET, black_box(&mut places))
+    })
+}
+
+/// Ten runs of two numbers, each with a clock: the clocks end from the nearest on, two tickets
+/// leave each time; then again from the start.
+fn clock_end<V: Version>() -> Run {
+    let mut held = Resequencer {
+        nesn: 50,
+        ..Resequencer::fresh()
+    };
+    let first = |run: u8| (50 + 3 * run + 1) % 64;
+    for run in 0..10 {
+        for sn in [first(run), (first(run) + 1) % 64] {
+            held.arrive(sn, TICKET, &mut [0; 32]).unwrap();
+        }
+    }
+    assert_eq!((held.held.count_ones(), held.clocks.count_ones()), (20, 10));
+    let start = V::resequencer(&held);
+    let (mut state, mut places, mut run) = (start.clone(), [0; 32], 0);
+    looped(move || {
+        if run == 10 {
+            run = 0;
+            black_box(&mut state).clone_from(&start);
+        }
+        let sn = first(run);
+        run += 1;
+        V::clock_end(black_box(&mut state), sn, black_box(&mut places))
+    })
+}
+
+/// Fifteen packets from an edge of 9, then again from the start.
+fn send<V: Version>() -> Run {
+    let start = V::sender(9, 9);
+    let (mut state, mut sent) = (start, 0);
+    looped(move || {
+        if sent == 15 {
+            sent = 0;
+            state = start;
+        }
+        sent += 1;
+        V::send(black_box(&mut state))
+    })
+}
+
+/// Each packet is the expected one.
+fn receive<V: Version>() -> Run {
+    let (mut state, mut ps) = (V::receiver(), 0);
+    looped(move || {
+        let due = V::receive(black_box(&mut state), ps);
+        ps = (ps + 1) % 16;
+        due
+    })
+}
+
+const DATA: Packet = Packet::Data {
+    m: true,
+    sn: 5,
+    ps: 3,
+    pr: 2,
+    ch: 4,
+};
+const REQUEST: Packet = Packet::ClearRequest {
+    tc: 1,
+    sn: 9,
+    ch: 3,
+    am: 2,
+    ag: 0x41,
+    cc: 141,
+    dc: 162,
+    s: true,
+    f: false,
+};
+const CONFIRMATION: Packet = Packet::ClearConfirmation {
+    tc: 1,
+    sn: 9,
+    ch: 3,
+    am: 2,
+    ag: 0x41,
+};
+
+fn write<V: Version>(packet: Packet, user_length: usize) -> Run {
+    let (form, packet) = (V::form(Form::LongUplink), V::packet(packet));
+    let user = vec![0x55; user_length];
+    let mut out = [0; 160];
+    looped(move || {
+        let (packet, user) = (black_box(&packet), black_box(&user[..]));
+        V::write(black_box(form), packet, user, black_box(&mut out[..]))
+    })
+}
+
+fn read<V: Version>(packet: Packet, user_length: usize) -> Run {
+    let mut frame = vec![0; 160];
+    let user = vec![0x55; user_length];
+    let length = frame::write(Form::LongUplink, &packet, &user, &mut frame).unwrap();
+    frame.truncate(length);
+    let form = V::form(Form::LongUplink);
+    looped(move || V::read(black_box(form), black_box(&frame[..])))
+}
+
+/// User data of a DATA packet and of a CLEAR REQUEST: neither fills its last segment.
+const DATA_USER: usize = 60;
+const REQUEST_USER: usize = 16;
+
+fn write_data<V: Version>() -> Run {
+    write::<V>(DATA, DATA_USER)
+}
+
+fn read_data<V: Version>() -> Run {
+    read::<V>(DATA, DATA_USER)
+}
+
+fn write_request<V: Version>() -> Run {
+    write::<V>(REQUEST, REQUEST_USER)
+}
+
+fn read_request<V: Version>() -> Run {
+    read::<V>(REQUEST, REQUEST_USER)
+}
+
+fn write_confirmation<V: Version>() -> Run {
+    write::<V>(CONFIRMATION, 0)
+}
+
+fn read_confirmation<V: Version>() -> Run {
+    read::<V>(CONFIRMATION, 0)
+}
+
+const MESSAGE: usize = 4096;
+const START: Start = Start {
+    sn: 50,
+    ps: 12,
+    pr: 3,
+    ch: 9,
+};
+
+fn some_message() -> Vec<u8> {
+    (0..MESSAGE).map(|at| (at * 7 + at / 256) as u8).collect()
+}
+
+fn cut<V: Version>() -> Run {
+    let (form, message) = (V::form(Form::LongUplink), some_message());
+    let (mut out, mut lengths) = (vec![0; 4480], vec![0; 30]);
+    looped(move || {
+        let (out, lengths) = (black_box(&mut out[..]), black_box(&mut lengths[..]));
+        V::cut(black_box(form), START, black_box(&message), out, lengths)
+    })
+}
+
+fn join<V: Version>() -> Run {
+    let (mut frames, mut lengths) = (vec![0; 4480], vec![0; 30]);
+    let (message, form) = (some_message(), Form::LongUplink);
+    let made = message::cut(form, START, &message, &mut frames, &mut lengths).unwrap();
+    frames.truncate(made.bytes);
+    lengths.truncate(made.frames);
+    let (form, mut out) = (V::form(form), vec![0; MESSAGE]);
+    looped(move || {
+        let (lengths, frames) = (black_box(&lengths[..]), black_box(&frames[..]));
+        V::join(black_box(form), lengths, frames, black_box(&mut out[..]))
+    })
+}
+
+/// A copy of the message's bytes, to be measured beside cutting and joining.
+pub fn copy() -> Run {
+    let (message, mut out) = (some_message(), vec![0; MESSAGE]);
+    looped(move || {
+        black_box(&mut out[..]).copy_from_slice(black_box(&message[..]));
+        1
+    })
+}
+
+/// Two lists of twelve entries, by turns: what one adds the other deletes, so that addresses
+/// come and are lost each time.
+fn route_lists() -> [Vec<u8>; 2] {
+    let entry = |index: u8, add: bool| {
+        let nd = index % 3;
+        let first = 20 * index;
+        let mut entry = vec![(index % 4) << 4 | u8::from(add) << 3 | nd];
+        entry.extend((0..=nd).map(|at| first + 5 * at));
+        entry
+    };
+    let list = |flip: u8| {
+        (0..12)
+            .flat_map(move |at| entry(at, at % 2 == flip))
+            .collect()
+    };
+    [list(0), list(1)]
+}
+
+fn update<V: Version>() -> Run {
+    let lists = route_lists();
+    let (mut table, mut lost, mut turn) = (V::table([0; 256]), [0; 256], 0);
+    looped(move || {
+        let list = &lists[turn];
+        turn ^= 1;
+        V::update(
+            black_box(&mut table),
+            black_box(&list[..]),
+            black_box(&mut lost),
+        )
+    })
+}
+
+/// Addresses with a few codes each; the last-used one is there, has failed, or is none.
+fn choose<V: Version>() -> Run {
+    let mut codes = [0; 256];
+    for (address, set) in codes.iter_mut().enumerate() {
+        *set = 0x8421u16.rotate_left(address as u32 % 4);
+    }
+    let asked: Vec<Asked> = (0..80u16)
+        .map(|turn| Asked {
+            address: (turn * 3) as u8,
+            last: (turn % 8 != 0).then_some(turn % 16),
+            failed: 1 << (turn % 5),
+        })
+        .collect();
+    let (table, mut turn) = (V::table(codes), 0);
+    looped(move || {
+        if turn == asked.len() {
+            turn = 0;
+        }
+        let now = asked[turn];
+        turn += 1;
+        V::choose(black_box(&table), now)
+    })
+}

@@ -1,0 +1,235 @@
+//! Cutting and joining, with the segment's size known when this is compiled.
+
+use crate::frame::{as_word, long_largest, put, read_in, user_data, LONG, SHORT, SHORT_LARGEST};
+use plain::frame::Form;
+use plain::message::{Cut, Start, LONGEST};
+use plain::Refusal;
+
+const HEADER: usize = 3;
+
+/// Cuts a message into frames, one after the other in `out`, their lengths in `lengths`.
+#[inline]
+pub fn cut(
+    form: Form,
+    start: Start,
+    message: &[u8],
+    out: &mut [u8],
+    lengths: &mut [usize],
+) -> Result<Cut, Refusal> {
+    match long_largest(form)? {
+        Some(largest) => cut_in::<LONG>(largest, start, message, out, lengths),
+        None => cut_in::<SHORT>(SHORT_LARGEST, start, message, out, lengths),
+    }
+}
+
+#[inline]
+fn cut_in<const SEGMENT: usize>(
+    largest: usize,
+    start: Start,
+    message: &[u8],
+    out: &mut [u8],
+    lengths: &mut [usize],
+) -> Result<Cut, Refusal> {
+    if start.sn > 63 || start.ps | start.pr | start.ch > 15 {
+        return Err(Refusal::OutOfRange);
+    }
+    if message.len() > LONGEST {
+        return Err(Refusal::MessageTooLong);
+    }
+    let (share, whole) = (largest - HEADER, largest.next_multiple_of(SEGMENT));
+    // All frames but the last are full; 4,096 fits 32 bits, so the division is a short one.
+    let full = (message.len() as u32).saturating_sub(1) / share as u32;
+    let (early, rest) = message.split_at(full as usize * share);
+    let last = (HEADER + rest.len()).next_multiple_of(SEGMENT);
+    let made = Cut {
+        frames: full as usize + 1,
+        bytes: full as usize * whole + last,
+    };
+    let (Some(out), Some(lengths)) = (out.get_mut(..made.bytes), lengths.get_mut(..made.frames))
+    else {
+        return Err(Refusal::OutputTooShort);
+    };
+    lengths.fill(whole);
+    lengths[made.frames - 1] = last;
+    let (room, end) = out.split_at_mut(made.bytes - last);
+    let mut header = Header::new(start);
+    for (frame, user) in room.chunks_exact_mut(whole).zip(early.chunks_exact(share)) {
+        header.put_full::<SEGMENT>(user, frame);
+    }
+    put::<SEGMENT, HEADER>(header.bytes(0), largest, rest, end)?;
+    Ok(made)
+}
+
+/// The header that the next frame gets, SN and PS counting up.
+struct Header(Start);
+
+impl Header {
+    #[inline]
+    fn new(start: Start) -> Self {
+        Header(start)
+    }
+
+    #[inline]
+    fn bytes(&self, m: u8) -> [u8; HEADER] {
+        let Start { sn, ps, pr, ch } = self.0;
+        [0x80 | m << 6 | sn & 63, ps << 4 | pr, ch << 4]
+    }
+
+    /// A full frame: its user data ends inside the last segment, or fills it.
+    #[inline]
+    fn put_full<const SEGMENT: usize>(&mut self, user: &[u8], frame: &mut [u8]) {
+        if let Some(last) = frame.last_chunk_mut::<SEGMENT>() {
+            *last = [0; SEGMENT];
+        }
+        let length = HEADER + user.len();
+        let mut header = self.bytes(1);
+        header[HEADER - 1] |= (length + SEGMENT - frame.len()) as u8;
+        frame[..HEADER].copy_from_slice(&header);
+        frame[HEADER..length].copy_from_slice(user);
+        self.0.sn = self.0.sn.wrapping_add(1);
+        self.0.ps = (self.0.ps + 1) & 15;
+    }
+}
+
+/// Joins DATA frames to their message; answers its length.
+#[inline]
+pub fn join(
+    form: Form,
+    lengths: &[usize],
+    frames: &[u8],
+    out: &mut [u8],
+) -> Result<usize, Refusal> {
+    match long_largest(form)? {
+        Some(largest) => join_in::<LONG>(largest, lengths, frames, out),
+        None => join_in::<SHORT>(SHORT_LARGEST, lengths, frames, out),
+    }
+}
+
+#[inline]
+fn join_in<const SEGMENT: usize>(
+    largest: usize,
+    lengths: &[usize],
+    frames: &[u8],
+    out: &mut [u8],
+) -> Result<usize, Refusal> {
+    let Some((&last, early)) = lengths.split_last() else {
+        return Err(Refusal::Malformed);
+    };
+    let sum = early.iter().try_fold(last, |sum, &l| sum.checked_add(l));
+    if sum != Some(frames.len()) {
+        return Err(Refusal::Malformed);
+    }
+    let full = Full::new(SEGMENT, largest);
+    let (mut rest, mut total, mut due) = (frames, 0, None);
+    for &length in early {
+        let (frame, after) = rest.split_at(length);
+        rest = after;
+        if full.is_due::<SEGMENT>(frame, &mut due) {
+            total += largest - HEADER;
+        } else {
+            total += one_frame::<SEGMENT>(largest, frame, true, &mut due)?;
+        }
+    }
+    total += one_frame::<SEGMENT>(largest, rest, false, &mut due)?;
+    if total > LONGEST {
+        return Err(Refusal::MessageTooLong);
+    }
+    let message = out.get_mut(..total).ok_or(Refusal::OutputTooShort)?;
+    gather::<SEGMENT>(lengths, frames, message);
+    Ok(total)
+}
+
+/// SN, PS and CH that the next frame has to carry.
+type Due = Option<(u8, u8, u8)>;
+
+/// A frame that carries as much as its form allows: almost all of a message's frames do.
+struct Full {
+    length: usize,
+    lv: u8,
+}
+
+impl Full {
+    #[inline]
+    fn new(segment: usize, largest: usize) -> Self {
+        let length = largest.next_multiple_of(segment);
+        Full {
+            length,
+            lv: (largest + segment - length) as u8,
+        }
+    }
+
+    /// Whether a frame is full, good, and the one that is due with M = 1; then the next one is
+    /// due. Says no where it takes a closer look to tell.
+    #[inline]
+    fn is_due<const SEGMENT: usize>(&self, frame: &[u8], due: &mut Due) -> bool {
+        let (Some((sn, ps, ch)), Some(last)) = (*due, frame.last_chunk::<SEGMENT>()) else {
+            return false;
+        };
+        let good = frame.len() == self.length
+            && frame[0] == 0xC0 | sn
+            && frame[1] >> 4 == ps
+            && frame[2] == ch << 4 | self.lv
+            && as_word(last) >> (8 * self.lv) == 0;
+        if good {
+            *due = Some(((sn + 1) & 63, (ps + 1) & 15, ch));
+        }
+        good
+    }
+}
+
+/// Checks one frame, which has more after it or not; answers the length of its user data.
+#[inline]
+fn one_frame<const SEGMENT: usize>(
+    largest: usize,
+    frame: &[u8],
+    more: bool,
+    due: &mut Due,
+) -> Result<usize, Refusal> {
+    let Some(last) = frame.last_chunk::<SEGMENT>() else {
+        return Err(Refusal::Malformed);
+    };
+    let [b0, b1, b2] = [frame[0], frame[1], frame[2]];
+    if !frame.len().is_multiple_of(SEGMENT) {
+        return Err(Refusal::Malformed);
+    }
+    if b0 < 0x80 {
+        return Err(not_data::<SEGMENT>(largest, frame));
+    }
+    let user = user_data::<SEGMENT, HEADER>(b2 & 15, largest, frame, last)?.len();
+    let m = b0 & 0x40 != 0;
+    if more && !m {
+        return Err(Refusal::FormatError);
+    }
+    let (sn, ps, ch) = (b0 & 63, b1 >> 4, b2 >> 4);
+    if due.is_some_and(|due| due != (sn, ps, ch)) {
+        return Err(Refusal::RunBroken);
+    }
+    if m && !more {
+        return Err(Refusal::Malformed);
+    }
+    *due = Some(((sn + 1) & 63, (ps + 1) & 15, ch));
+    Ok(user)
+}
+
+/// A frame that is not DATA is refused by what its reading finds, else for not being DATA.
+#[cold]
+fn not_data<const SEGMENT: usize>(largest: usize, frame: &[u8]) -> Refusal {
+    match read_in::<SEGMENT>(largest, frame) {
+        Err(refusal) => refusal,
+        Ok(_) => Refusal::FormatError,
+    }
+}
+
+/// Copies the user data of frames that have been checked.
+#[inline]
+fn gather<const SEGMENT: usize>(lengths: &[usize], frames: &[u8], message: &mut [u8]) {
+    let (mut rest, mut room) = (frames, message);
+    for &length in lengths {
+        let (frame, after) = rest.split_at(length);
+        let lv = usize::from(frame[HEADER - 1] & 15);
+        let user = &frame[HEADER..length - SEGMENT + lv];
+        let (place, later) = room.split_at_mut(user.len());
+        place.copy_from_slice(user);
+        (rest, room) = (after, later);
+    }
+}

@@ -1,0 +1,299 @@
+//! The fast version against the plain one: the same answers, the same lent memory.
+
+use plain::frame::{Form, Packet};
+use plain::message::Start;
+use plain::resequencer::PLACES;
+
+/// Splitmix64.
+struct Random(u64);
+
+impl Random {
+    fn next(&mut self) -> u64 {
+        self.0 = self.0.wrapping_add(0x9E37_79B9_7F4A_7C15);
+        let mut z = self.0;
+        z = (z ^ z >> 30).wrapping_mul(0xBF58_476D_1CE4_E5B9);
+        z = (z ^ z >> 27).wrapping_mul(0x94D0_49BB_1331_11EB);
+        z ^ z >> 31
+    }
+
+    fn below(&mut self, bound: usize) -> usize {
+        (self.next() % bound as u64) as usize
+    }
+
+    fn one_in(&mut self, bound: usize) -> bool {
+        self.below(bound) == 0
+    }
+
+    fn byte(&mut self) -> u8 {
+        self.next() as u8
+    }
+
+    /// A value that fits `bits` bits, but for one in 32.
+    fn field(&mut self, bits: u32) -> u8 {
+        let byte = self.byte();
+        if self.one_in(32) {
+            byte
+        } else {
+            byte & ((1 << bits) - 1)
+        }
+    }
+
+    fn form(&mut self) -> Form {
+        match self.below(4) {
+            0 => Form::ShortUplink,
+            1 => Form::LongUplink,
+            _ => Form::LongDownlink(self.below(18) as u8),
+        }
+    }
+}
+
+#[test]
+fn windows() {
+    for bits in 0..=0xFFFFu16 {
+        let [edge, next] = bits.to_le_bytes();
+        let mut fast = best::window::Sender { edge, next };
+        let mut plain = plain::window::Sender { edge, next };
+        assert_eq!(fast.send(), plain.send());
+        assert_eq!([fast.edge, fast.next], plain.to_bytes());
+    }
+    for bits in 0..1u32 << 18 {
+        let [expected, count, ps] = [0, 6, 12].map(|shift| (bits >> shift & 31) as u8);
+        let mark = bits >> 5 & 1 == 1;
+        let mut fast = best::window::Receiver {
+            expected,
+            mark,
+            count,
+        };
+        let mut plain = plain::window::Receiver {
+            expected,
+            mark,
+            count,
+        };
+        assert_eq!(fast.receive(ps), plain.receive(ps));
+        assert_eq!(
+            [fast.expected, fast.mark.into(), fast.count],
+            plain.to_bytes()
+        );
+    }
+}
+
+/// One event on both; answers and memory must agree.
+fn event(random: &mut Random, state: &mut plain::resequencer::Resequencer) {
+    let mut fast = best::resequencer::Resequencer::from_plain(state);
+    let (mut out, mut fast_out) = ([0xABCD; PLACES], [0xABCD; PLACES]);
+    let ticket = random.next() as u16;
+    if random.one_in(6) && state.clocks != 0 {
+        let turned = state.clocks.rotate_right(u32::from(ticket) & 63);
+        let some = (turned.trailing_zeros() + u32::from(ticket)) as u8 & 63;
+        let sn = if random.one_in(8) {
+            random.byte()
+        } else {
+            some
+        };
+        assert_eq!(
+            fast.clock_end(sn, &mut fast_out),
+            state.clock_end(sn, &mut out)
+        );
+    } else {
+        let distance = match random.below(8) {
+            0 => 29 + random.below(5) as u8,
+            1 => random.byte() & 31,
+            _ => random.below(5) as u8,
+        };
+        let near = state.nesn.wrapping_add(distance) & 63;
+        let sn = if random.one_in(64) {
+            random.byte()
+        } else {
+            near
+        };
+        assert_eq!(
+            fast.arrive(sn, ticket, &mut fast_out),
+            state.arrive(sn, ticket, &mut out)
+        );
+    }
+    assert_eq!(&fast.to_plain(), state);
+    assert_eq!(fast_out, out);
+}
+
+#[test]
+fn resequencer() {
+    let mut random = Random(1);
+    let mut state = plain::resequencer::Resequencer::fresh();
+    for _ in 0..400_000 {
+        event(&mut random, &mut state);
+        assert!(state.in_order());
+        if random.one_in(4) {
+            let mut bytes = state.to_bytes();
+            for _ in 0..=random.below(2) {
+                let front = if random.one_in(2) { 18 } else { 146 };
+                bytes[random.below(front)] ^= 1 << random.below(8);
+            }
+            let mut damaged = plain::resequencer::Resequencer::from_bytes(&bytes);
+            event(&mut random, &mut damaged);
+        }
+    }
+}
+
+fn packet(random: &mut Random) -> Packet {
+    let (tc, sn) = (random.field(2), random.field(6));
+    let [ch, am, ps, pr] = [(); 4].map(|()| random.field(4));
+    let [ag, cc, dc] = [(); 3].map(|()| random.byte());
+    let [m, s, f] = [(); 3].map(|()| random.one_in(2));
+    match random.below(3) {
+        0 => Packet::Data { m, sn, ps, pr, ch },
+        1 => Packet::ClearConfirmation { tc, sn, ch, am, ag },
+        _ => Packet::ClearRequest {
+            tc,
+            sn,
+            ch,
+            am,
+            ag,
+            cc,
+            dc,
+            s,
+            f,
+        },
+    }
+}
+
+#[test]
+fn frames() {
+    let mut random = Random(2);
+    for _ in 0..300_000 {
+        let (form, packet) = (random.form(), packet(&mut random));
+        let longest = [12, 40, 170][random.below(3)];
+        let confirmation = matches!(packet, Packet::ClearConfirmation { .. });
+        let most = if confirmation && !random.one_in(8) {
+            1
+        } else {
+            longest
+        };
+        let user: Vec<u8> = (0..random.below(most)).map(|_| random.byte()).collect();
+        let room = if random.one_in(4) {
+            random.below(170)
+        } else {
+            180
+        };
+        let (mut fast, mut plain) = (vec![0xEE; room], vec![0xEE; room]);
+        let answer = plain::frame::write(form, &packet, &user, &mut plain);
+        assert_eq!(best::frame::write(form, &packet, &user, &mut fast), answer);
+        assert_eq!(fast, plain);
+        let Ok(length) = answer else { continue };
+        let mut frame = plain[..length].to_vec();
+        for _ in 0..8 {
+            let read = plain::frame::read(form, &frame);
+            assert_eq!(best::frame::read(form, &frame), read);
+            let at = random.below(frame.len());
+            frame[at] ^= 1 << random.below(8);
+            if random.one_in(8) {
+                frame.resize(random.below(4) * 10 + 10 + random.below(2), 0);
+            }
+        }
+    }
+}
+
+#[test]
+fn messages() {
+    let mut random = Random(3);
+    for _ in 0..40_000 {
+        let form = random.form();
+        let share = form.sizes().map_or(20, |sizes| sizes.largest - 3);
+        let near = share * random.below(5) + random.below(3);
+        let length = if random.one_in(50) {
+            4090 + random.below(10)
+        } else {
+            near.saturating_sub(1)
+        };
+        let message: Vec<u8> = (0..length).map(|_| random.byte()).collect();
+        let start = Start {
+            sn: random.field(6),
+            ps: random.field(4),
+            pr: random.field(4),
+            ch: random.field(4),
+        };
+        let room = if random.one_in(4) {
+            random.below(900)
+        } else {
+            6000
+        };
+        let places = if random.one_in(4) {
+            random.below(6)
+        } else {
+            600
+        };
+        let (mut fast, mut plain) = (vec![0xEE; room], vec![0xEE; room]);
+        let (mut fast_lengths, mut lengths) = (vec![77; places], vec![77; places]);
+        let answer = plain::message::cut(form, start, &message, &mut plain, &mut lengths);
+        let fast_answer = best::message::cut(form, start, &message, &mut fast, &mut fast_lengths);
+        assert_eq!(fast_answer, answer);
+        assert!(fast == plain && fast_lengths == lengths);
+        if let Ok(made) = answer {
+            plain.truncate(made.bytes);
+            lengths.truncate(made.frames);
+            join(&mut random, form, lengths, plain);
+        }
+    }
+}
+
+fn join(random: &mut Random, form: Form, mut lengths: Vec<usize>, mut frames: Vec<u8>) {
+    for _ in 0..4 {
+        let room = if random.one_in(4) {
+            random.below(700)
+        } else {
+            5000
+        };
+        let (mut fast, mut plain) = (vec![0xEE; room], vec![0xEE; room]);
+        let answer = plain::message::join(form, &lengths, &frames, &mut plain);
+        assert_eq!(
+            best::message::join(form, &lengths, &frames, &mut fast),
+            answer
+        );
+        assert_eq!(fast, plain);
+        match random.below(6) {
+            0 => {
+                let at = random.below(lengths.len());
+                lengths[at] ^= [1, 10, 7, usize::MAX][random.below(4)];
+            }
+            1 => frames.truncate(random.below(frames.len() + 1)),
+            _ => {
+                let start = lengths[..random.below(lengths.len())].iter().sum::<usize>();
+                let at = start + random.below(10);
+                if let Some(byte) = frames.get_mut(at) {
+                    *byte ^= 1 << random.below(8);
+                }
+            }
+        }
+        if lengths.iter().any(|&length| length > frames.len()) {
+            break;
+        }
+    }
+}
+
+#[test]
+fn routes_and_choice() {
+    let mut random = Random(4);
+    let mut table = plain::route::Table::empty();
+    for _ in 0..200_000 {
+        let mut list = Vec::new();
+        let entries = if random.one_in(20) { 60 } else { 14 };
+        for _ in 0..random.below(entries) {
+            let nd = random.below(8);
+            list.push(random.byte() & 0x38 | nd as u8);
+            list.extend((0..=nd).map(|_| random.byte() & 0x8F));
+        }
+        if random.one_in(8) {
+            list.truncate(random.below(list.len() + 1));
+        }
+        let mut fast = best::route::Table { codes: table.codes };
+        let (mut fast_lost, mut lost) = ([9; 256], [9; 256]);
+        let answer = table.update(&list, &mut lost);
+        assert_eq!(fast.update(&list, &mut fast_lost), answer);
+        assert!(fast.codes == table.codes && fast_lost == lost);
+        let (address, failed) = (random.byte() & 0x8F, random.next() as u16);
+        let last = (!random.one_in(3)).then(|| random.below(18) as u16);
+        assert_eq!(
+            fast.choose(address, last, failed),
+            table.choose(address, last, failed)
+        );
+    }
+}

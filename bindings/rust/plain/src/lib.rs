@@ -1,0 +1,19 @@
+//! The packet layer in plain Rust, written from the rules alone: states are ordinary structs,
+//! events are methods that change them. It links nothing and shares no code with the library
+//! that it is held against.
+//!
+//! Every call checks what the rules name, in their order, and answers a [`Refusal`] at the
+//! first thing wrong; it then has changed neither the state nor any lent list.
+
+pub mod frame;
+pub mod message;
+pub mod number;
+mod refusal;
+pub mod resequencer;
+pub mod route;
+pub mod window;
+
+pub use refusal::Refusal;
+
+#[cfg(test)]
+mod paper;

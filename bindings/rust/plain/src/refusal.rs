@@ -1,0 +1,29 @@
+/// Why a call was not done; the numbers are those of the rules.
+#[derive(Clone, Copy, Debug, PartialEq, Eq)]
+#[repr(u8)]
+pub enum Refusal {
+    OutOfRange = 1,
+    Malformed = 2,
+    FormatError = 3,
+    MessageTooLong = 4,
+    OutputTooShort = 5,
+    RouteListMalformed = 6,
+    NoClock = 7,
+    NoInterrogator = 8,
+    WindowClosed = 9,
+    OutsideWindow = 10,
+    OutOfSequence = 11,
+    FirstNotZero = 12,
+    PacketTooLong = 13,
+    NotInOrder = 14,
+    AllFailed = 15,
+    NeverSent = 16,
+    RunBroken = 17,
+}
+
+impl Refusal {
+    #[inline]
+    pub fn number(self) -> u8 {
+        self as u8
+    }
+}

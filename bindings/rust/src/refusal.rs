@@ -1,0 +1,167 @@
+use std::error::Error;
+use std::fmt;
+
+/// Why a call was not done. A refused call has changed nothing.
+///
+/// ```
+/// use pepperknoll::{PacketNumber, Refusal, Sender};
+///
+/// let refusal = Sender::fresh().acknowledge(PacketNumber(1)).unwrap_err();
+/// assert_eq!(refusal, Refusal::NeverSent);
+/// assert_eq!(refusal.number(), 16);
+/// assert_eq!(refusal.to_string(), "PR acknowledges what was never sent");
+/// ```
+#[derive(Clone, Copy, Debug, PartialEq, Eq, Hash)]
+#[repr(u8)]
+pub enum Refusal {
+    /// 1: an argument exceeds its field.
+    OutOfRange = 1,
+    /// 2: a frame is empty or no whole number of segments, the lengths do not sum to the data,
+    /// there are no frames, or the last frame has M = 1.
+    Malformed = 2,
+    /// 3: a fixed field, fill, LV or padding byte is wrong, or M = 0 before the last frame.
+    FormatError = 3,
+    /// 4: a message is over 4,096 bytes.
+    MessageTooLong = 4,
+    /// 5: lent output is shorter than needed.
+    OutputTooShort = 5,
+    /// 6: a route list is over 255 bytes, or its last entry is cut.
+    RouteListMalformed = 6,
+    /// 7: no clock runs for that number.
+    NoClock = 7,
+    /// 8: the ground address has no interrogator.
+    NoInterrogator = 8,
+    /// 9: the send window is closed.
+    WindowClosed = 9,
+    /// 10: the received PS is outside the window.
+    OutsideWindow = 10,
+    /// 11: the received PS is out of sequence.
+    OutOfSequence = 11,
+    /// 12: the received PS is the first one and not 0.
+    FirstNotZero = 12,
+    /// 13: the packet is over the form's largest size.
+    PacketTooLong = 13,
+    /// 14: the state is not in good order.
+    NotInOrder = 14,
+    /// 15: every interrogator of that address has failed.
+    AllFailed = 15,
+    /// 16: PR acknowledges what was never sent.
+    NeverSent = 16,
+    /// 17: SN, PS or CH breaks the run while joining.
+    RunBroken = 17,
+}
+
+/// The clearing cause (CC) and the diagnostic code (DC) with which a call is cleared.
+#[derive(Clone, Copy, Debug, PartialEq, Eq, Hash)]
+pub struct ClearingCodes {
+    /// Clearing cause.
+    pub cc: u8,
+    /// Diagnostic code.
+    pub dc: u8,
+}
+
+impl Refusal {
+    /// All refusals, by rising number.
+    pub const ALL: [Refusal; 17] = [
+        Refusal::OutOfRange,
+        Refusal::Malformed,
+        Refusal::FormatError,
+        Refusal::MessageTooLong,
+        Refusal::OutputTooShort,
+        Refusal::RouteListMalformed,
+        Refusal::NoClock,
+        Refusal::NoInterrogator,
+        Refusal::WindowClosed,
+        Refusal::OutsideWindow,
+        Refusal::OutOfSequence,
+        Refusal::FirstNotZero,
+        Refusal::PacketTooLong,
+        Refusal::NotInOrder,
+        Refusal::AllFailed,
+        Refusal::NeverSent,
+        Refusal::RunBroken,
+    ];
+
+    /// The refusal's number, 1 to 17.
+    #[inline]
+    pub const fn number(self) -> u8 {
+        self as u8
+    }
+
+    /// The refusal with this number.
+    ///
+    /// ```
+    /// use pepperknoll::Refusal;
+    ///
+    /// assert_eq!(Refusal::from_number(7), Some(Refusal::NoClock));
+    /// assert_eq!(Refusal::from_number(0), None);
+    /// ```
+    #[inline]
+    pub const fn from_number(number: u8) -> Option<Refusal> {
+        match number {
+            1..=17 => Some(Refusal::ALL[number as usize - 1]),
+            _ => None,
+        }
+    }
+
+    /// The codes with which a call is cleared that was refused so: there are some for
+    /// [`Refusal::NoInterrogator`] alone.
+    #[inline]
+    pub const fn clearing_codes(self) -> Option<ClearingCodes> {
+        match self {
+            Refusal::NoInterrogator => Some(ClearingCodes { cc: 141, dc: 162 }),
+            _ => None,
+        }
+    }
+}
+
+impl fmt::Display for Refusal {
+    fn fmt(&self, f: &mut fmt::Formatter<'_>) -> fmt::Result {
+        f.write_str(match self {
+            Refusal::OutOfRange => "an argument exceeds its field",
+            Refusal::Malformed => "the frames or their lengths are malformed",
+            Refusal::FormatError => "a fixed field, fill, LV, padding byte or M is wrong",
+            Refusal::MessageTooLong => "the message is over 4,096 bytes",
+            Refusal::OutputTooShort => "the lent output is shorter than needed",
+            Refusal::RouteListMalformed => "the route list is over 255 bytes or cut",
+            Refusal::NoClock => "no clock runs for that number",
+            Refusal::NoInterrogator => "the ground address has no interrogator",
+            Refusal::WindowClosed => "the send window is closed",
+            Refusal::OutsideWindow => "the received PS is outside the window",
+            Refusal::OutOfSequence => "the received PS is out of sequence",
+            Refusal::FirstNotZero => "the first received PS is not 0",
+            Refusal::PacketTooLong => "the packet is over the form's largest size",
+            Refusal::NotInOrder => "the state is not in good order",
+            Refusal::AllFailed => "every interrogator of that address has failed",
+            Refusal::NeverSent => "PR acknowledges what was never sent",
+            Refusal::RunBroken => "SN, PS or CH breaks the run",
+        })
+    }
+}
+
+impl Error for Refusal {}
+
+#[cfg(test)]
+mod tests {
+    use super::*;
+    use std::collections::HashSet;
+
+    #[test]
+    fn numbers_are_1_to_17_and_come_back() {
+        let numbers: Vec<u8> = Refusal::ALL
+            .iter()
+            .map(|refusal| refusal.number())
+            .collect();
+        assert_eq!(numbers, (1..=17).collect::<Vec<u8>>());
+        for number in 0..=255 {
+            let back = Refusal::from_number(number).map(Refusal::number);
+            assert_eq!(back, (1..=17).contains(&number).then_some(number));
+        }
+    }
+
+    #[test]
+    fn sentences_differ() {
+        let sentences: HashSet<String> = Refusal::ALL.iter().map(Refusal::to_string).collect();
+        assert_eq!(sentences.len(), 17);
+    }
+}

@@ -1,0 +1,153 @@
+//! The choice of an interrogator, from a set and from a table.
+
+use pepperknoll::raw;
+use plain::route::{self, Table, CLEARING};
+use plain::Refusal;
+
+use crate::support::{by_number, safe_by_number, Call, Lent, Random, Trial};
+
+pub fn run(trial: &mut Trial) {
+    several_refusals();
+    small_sets(trial);
+    random_sets(trial);
+    from_tables(trial);
+}
+
+/// How the header writes that no code was used before.
+const NO_CODE: u16 = 0xFFFF;
+
+/// The answer that the header gives: the clearing codes stand beside 8 alone.
+fn wanted_answer(wanted: Result<u8, Refusal>) -> u32 {
+    let (cause, diagnostic) = CLEARING;
+    match wanted {
+        Ok(code) => u32::from(code) << 8,
+        Err(Refusal::NoInterrogator) => 8 | u32::from(cause) << 16 | u32::from(diagnostic) << 24,
+        Err(refusal) => refusal.number().into(),
+    }
+}
+
+fn last_used(last: u16) -> Option<u16> {
+    (last != NO_CODE).then_some(last)
+}
+
+/// The safe calls take a byte; a code over that can be lent to the library only.
+fn safe_last(last: u16) -> Option<Option<u8>> {
+    match last_used(last) {
+        None => Some(None),
+        Some(code) => u8::try_from(code).ok().map(Some),
+    }
+}
+
+fn check(trial: &mut Trial, codes: u16, last: u16, failed: u16) {
+    let wanted = route::choose(codes, last_used(last), failed);
+    // SAFETY: the call takes numbers only.
+    let got = unsafe { raw::pk_choose(codes, last, failed) };
+    trial.tally.saw(Call::Choose, got.into());
+    let what = || format!("codes {codes:x}, last {last}, failed {failed:x}");
+    assert_eq!(got, wanted_answer(wanted), "{}", what());
+    if let Some(last) = safe_last(last) {
+        let safe = pepperknoll::choose(codes, last, failed);
+        assert_eq!(safe_by_number(safe), by_number(wanted), "{}", what());
+        let cleared = safe.err().and_then(pepperknoll::Refusal::clearing_codes);
+        let beside = cleared.map_or((0, 0), |codes| (codes.cc, codes.dc));
+        assert_eq!(beside, ((got >> 16) as u8, (got >> 24) as u8), "{}", what());
+    }
+}
+
+const LASTS: [u16; 12] = [0, 1, 2, 3, 7, 14, 15, 16, 255, 256, 0xFFFE, NO_CODE];
+
+/// Sets of up to four neighbouring codes, all failures among them, at each place.
+fn small_sets(trial: &mut Trial) {
+    for place in 0..=12 {
+        for codes in 0..16 {
+            for failed in 0..16 {
+                for last in (0..=17).chain(LASTS) {
+                    check(trial, codes << place, last, failed << place);
+                }
+            }
+        }
+    }
+}
+
+/// Sets of codes: many, few, one, none.
+fn some_set(random: &mut Random) -> u16 {
+    let (a, b) = (random.word() as u16, random.word() as u16);
+    match random.below(6) {
+        0 => 0,
+        1 => 1 << (a % 16),
+        2 => a & b & random.word() as u16,
+        3 => 0xFFFF,
+        _ => a,
+    }
+}
+
+fn some_last(random: &mut Random) -> u16 {
+    match random.below(8) {
+        0 => NO_CODE,
+        1 => random.pick(&LASTS),
+        2 => random.word() as u16,
+        _ => random.below(16) as u16,
+    }
+}
+
+/// Failures: any, none, all that are present, all but one of these.
+fn some_failed(random: &mut Random, codes: u16) -> u16 {
+    match random.below(5) {
+        0 => codes,
+        1 => codes & !(1 << random.below(16)),
+        2 => !codes,
+        3 => codes | random.word() as u16,
+        _ => some_set(random),
+    }
+}
+
+fn random_sets(trial: &mut Trial) {
+    for _ in 0..trial.times(2_000_000, 20_000_000) {
+        let codes = some_set(&mut trial.random);
+        let failed = some_failed(&mut trial.random, codes);
+        let last = some_last(&mut trial.random);
+        check(trial, codes, last, failed);
+    }
+}
+
+fn from_tables(trial: &mut Trial) {
+    let mut lent = Lent::new();
+    for _ in 0..trial.times(300, 3_000) {
+        let mut table = Table::empty();
+        for set in &mut table.codes {
+            *set = some_set(&mut trial.random);
+        }
+        let bytes = table.to_bytes();
+        lent.lend(&bytes);
+        let safe = pepperknoll::Table::from_bytes(bytes);
+        for address in 0..=255 {
+            let last = some_last(&mut trial.random);
+            let failed = some_failed(&mut trial.random, table.codes(address));
+            let wanted = table.choose(address, last_used(last), failed);
+            let (start, length) = (lent.as_ptr(), lent.len());
+            // SAFETY: the list is lent with its own length.
+            let got = unsafe { raw::pk_table_choose(start, length, address, last, failed) };
+            trial.tally.saw(Call::TableChoose, got.into());
+            assert_eq!(got, wanted_answer(wanted), "{address}, {last}, {failed:x}");
+            if let Some(last) = safe_last(last) {
+                let safe = safe.choose(address, last, failed);
+                assert_eq!(safe_by_number(safe), by_number(wanted));
+            }
+        }
+        lent.assert_holds(&bytes, || "choose".into());
+    }
+}
+
+/// Inputs that deserve several refusals, by the numbers that the rules put first.
+fn several_refusals() {
+    let number = |codes, last, failed| {
+        // SAFETY: the call takes numbers only.
+        unsafe { raw::pk_choose(codes, last, failed) as u8 }
+    };
+    assert_eq!(number(0, 16, 0xFFFF), 1);
+    assert_eq!(number(0, 0xFFFE, 0), 1);
+    assert_eq!(number(3, 16, 3), 1);
+    assert_eq!(number(0, NO_CODE, 0xFFFF), 8);
+    assert_eq!(number(3, NO_CODE, 0xFFFF), 15);
+    assert_eq!(number(3, 0, 1), 0);
+}

@@ -1,0 +1,50 @@
+//! The library against `plain`, call by call and over long sequences: the same answers, and the
+//! same lent memory, guards around it included.
+//!
+//! `PEPPERKNOLL_SEED=n` sets the seed, `PEPPERKNOLL_LONG=1` the long setting.
+
+mod choice;
+mod frames;
+mod lengths;
+mod messages;
+mod resequencer;
+mod routes;
+mod support;
+mod window;
+
+use support::subject;
+
+#[test]
+fn window() {
+    subject("window", window::run);
+}
+
+#[test]
+fn resequencer() {
+    subject("resequencer", resequencer::run);
+}
+
+#[test]
+fn frames() {
+    subject("frames", frames::run);
+}
+
+#[test]
+fn messages() {
+    subject("messages", messages::run);
+}
+
+#[test]
+fn routes() {
+    subject("routes", routes::run);
+}
+
+#[test]
+fn choice() {
+    subject("choice", choice::run);
+}
+
+#[test]
+fn lengths() {
+    subject("lengths", lengths::run);
+}

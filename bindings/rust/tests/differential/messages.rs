@@ -1,0 +1,570 @@
+//! Messages: cut, joined again, and joined after something was changed.
+
+use pepperknoll::{raw, LinkNumber, PacketNumber};
+use plain::frame::{self, Form, Packet};
+use plain::message::{self, Cut, Start};
+use plain::Refusal;
+
+use crate::frames::{safe_form, some_form};
+use crate::support::{answer, by_number, safe_by_number, Call, Lent, Random, Trial};
+
+pub fn run(trial: &mut Trial) {
+    several_refusals(trial);
+    every_length(trial);
+    cut_and_changed(trial);
+    frames_of_any_size(trial);
+}
+
+const DIRT: u8 = 0xEE;
+const LENGTH_DIRT: usize = 0x7777;
+
+/// The lists lent for a message.
+struct Bed {
+    message: Lent<u8>,
+    frames: Lent<u8>,
+    lengths: Lent<usize>,
+}
+
+impl Bed {
+    fn new() -> Self {
+        Bed {
+            message: Lent::new(),
+            frames: Lent::new(),
+            lengths: Lent::new(),
+        }
+    }
+}
+
+#[derive(Debug)]
+struct Cutting {
+    form: u8,
+    start: Start,
+    message: Vec<u8>,
+    room: usize,
+    places: usize,
+}
+
+impl Cutting {
+    fn plain(&self, out: &mut [u8], lengths: &mut [usize]) -> Result<Cut, Refusal> {
+        let form = Form::from_number(self.form)?;
+        message::cut(form, self.start, &self.message, out, lengths)
+    }
+
+    /// Cuts with all three; gives lengths and frames if there are any.
+    fn check(&self, trial: &mut Trial, bed: &mut Bed) -> Option<Joining> {
+        let mut out = vec![DIRT; self.room];
+        let mut lengths = vec![LENGTH_DIRT; self.places];
+        bed.message.lend(&self.message);
+        bed.frames.lend(&out);
+        bed.lengths.lend(&lengths);
+        let wanted = self.plain(&mut out, &mut lengths);
+        let got = self.raw(bed);
+        trial.tally.saw(Call::MessageCut, got);
+        let wanted_answer = answer(&wanted, |made| {
+            made.frames as u64 | (made.bytes as u64) << 24
+        });
+        assert_eq!(got, wanted_answer, "{self:?}");
+        let what = || format!("{self:?}");
+        bed.frames.assert_holds(&out, what);
+        bed.lengths.assert_holds(&lengths, what);
+        bed.message.assert_holds(&self.message, what);
+        self.check_safe(wanted, &out, &lengths);
+        let made = wanted.ok()?;
+        out.truncate(made.bytes);
+        lengths.truncate(made.frames);
+        Some(Joining {
+            form: self.form,
+            lengths,
+            frames: out,
+            room: self.message.len(),
+        })
+    }
+
+    fn raw(&self, bed: &mut Bed) -> u64 {
+        // SAFETY: three lists apart, each lent with its own length.
+        unsafe {
+            raw::pk_message_cut(
+                self.form,
+                self.start.sn,
+                self.start.ps,
+                self.start.pr,
+                self.start.ch,
+                bed.message.as_ptr(),
+                bed.message.len(),
+                bed.frames.as_mut_ptr(),
+                bed.frames.len(),
+                bed.lengths.as_mut_ptr(),
+                bed.lengths.len(),
+            )
+        }
+    }
+
+    fn check_safe(&self, wanted: Result<Cut, Refusal>, out: &[u8], lengths: &[usize]) {
+        let Some(form) = safe_form(self.form) else {
+            return;
+        };
+        let start = pepperknoll::Start {
+            sn: LinkNumber(self.start.sn),
+            ps: PacketNumber(self.start.ps),
+            pr: PacketNumber(self.start.pr),
+            ch: self.start.ch,
+        };
+        let mut safe_out = vec![DIRT; self.room];
+        let mut safe_lengths = vec![LENGTH_DIRT; self.places];
+        let (room, places) = (&mut safe_out, &mut safe_lengths);
+        let safe = pepperknoll::cut(form, start, &self.message, room, places);
+        let safe = safe_by_number(safe).map(|made| (made.frames, made.bytes));
+        let wanted = by_number(wanted).map(|made| (made.frames, made.bytes));
+        assert_eq!(safe, wanted, "{self:?}");
+        assert!(safe_out == out && safe_lengths == lengths, "{self:?}");
+    }
+}
+
+#[derive(Clone, Debug)]
+struct Joining {
+    form: u8,
+    lengths: Vec<usize>,
+    frames: Vec<u8>,
+    room: usize,
+}
+
+impl Joining {
+    /// Joins with all three; gives the message if there is one.
+    fn check(&self, trial: &mut Trial, bed: &mut Bed) -> Result<Vec<u8>, Refusal> {
+        let mut out = vec![DIRT; self.room];
+        bed.message.lend(&out);
+        bed.lengths.lend(&self.lengths);
+        bed.frames.lend(&self.frames);
+        let wanted = Form::from_number(self.form)
+            .and_then(|form| message::join(form, &self.lengths, &self.frames, &mut out));
+        // SAFETY: three lists apart, each lent with its own length.
+        let got = unsafe {
+            raw::pk_message_join(
+                self.form,
+                bed.lengths.as_ptr(),
+                bed.lengths.len(),
+                bed.frames.as_ptr(),
+                bed.frames.len(),
+                bed.message.as_mut_ptr(),
+                bed.message.len(),
+            )
+        };
+        trial.tally.saw(Call::MessageJoin, got);
+        assert_eq!(got, answer(&wanted, |&length| length as u64), "{self:x?}");
+        let what = || format!("{self:x?}");
+        bed.message.assert_holds(&out, what);
+        bed.lengths.assert_holds(&self.lengths, what);
+        bed.frames.assert_holds(&self.frames, what);
+        self.check_safe(wanted, &out);
+        out.truncate(wanted?);
+        Ok(out)
+    }
+
+    fn check_safe(&self, wanted: Result<usize, Refusal>, wanted_out: &[u8]) {
+        let Some(form) = safe_form(self.form) else {
+            return;
+        };
+        let mut out = vec![DIRT; self.room];
+        let safe = pepperknoll::join(form, &self.lengths, &self.frames, &mut out);
+        assert_eq!(safe_by_number(safe), by_number(wanted), "{self:x?}");
+        assert_eq!(out, wanted_out, "{self:x?}");
+    }
+
+    /// Where a frame starts, as far as the lengths are true.
+    fn start_of(&self, frame: usize) -> usize {
+        let sum = self.lengths[..frame]
+            .iter()
+            .fold(0, |sum: usize, &l| sum.saturating_add(l));
+        sum.min(self.frames.len())
+    }
+
+    /// The bytes of one frame, as far as its length is true.
+    fn frame_mut(&mut self, frame: usize) -> &mut [u8] {
+        let start = self.start_of(frame);
+        let length = self.lengths[frame].min(self.frames.len() - start);
+        &mut self.frames[start..][..length]
+    }
+
+    /// Changes one thing.
+    fn change(&mut self, random: &mut Random) {
+        if self.lengths.is_empty() || self.frames.is_empty() {
+            return;
+        }
+        // The last frame and the one before it are where the rules meet.
+        let last = self.lengths.len() - 1;
+        let frame = match random.below(3) {
+            0 => last,
+            1 => last.saturating_sub(1),
+            _ => random.below(last + 1),
+        };
+        match random.below(12) {
+            0..=3 => change_header(random, self.frame_mut(frame)),
+            4 => change_tail(random, self.frame_mut(frame)),
+            5 => self.put_other_packet(random, frame),
+            6 | 7 => self.change_lengths(random, frame),
+            8 => self.swap_with_next(frame),
+            9 => self.leave_out(frame),
+            10 => self.room = random.pick(&[self.room.saturating_sub(1), 0, self.room + 9]),
+            _ => match random.below(2) {
+                0 => self.frames.truncate(self.frames.len() - 1),
+                _ => self.frames.push(0),
+            },
+        }
+    }
+
+    /// A packet that is not DATA in the place of a frame, good or not.
+    fn put_other_packet(&mut self, random: &mut Random, frame: usize) {
+        let bytes = self.frame_mut(frame);
+        let front: &[u8] = &random.pick(&[
+            [0x58, 9, 0x32, 0x41, 141, 162, 7],
+            [0x5C, 9, 0x32, 0x41, 0, 0, 0],
+            [0x5C, 9, 0x32, 0x41, 0, 0, 1],
+            [0x50, 9, 0x32, 0x41, 0, 0, 7],
+        ]);
+        bytes.fill(0);
+        let length = bytes.len().min(front.len());
+        bytes[..length].copy_from_slice(&front[..length]);
+    }
+
+    fn change_lengths(&mut self, random: &mut Random, frame: usize) {
+        let place = &mut self.lengths[frame];
+        match random.below(8) {
+            0 => *place = place.wrapping_add(1),
+            1 => *place = place.wrapping_sub(1),
+            2 => *place = 0,
+            3 => self.lengths.insert(frame, 0),
+            4 => self.lengths.extend([usize::MAX, 1]),
+            5 => self
+                .lengths
+                .extend([usize::MAX / 2 + 1, usize::MAX / 2 + 1]),
+            6 => drop(self.lengths.pop()),
+            _ => {
+                // The sum stays true, two frames get other lengths.
+                let moved = random.pick(&[1, 7, 10]).min(*place);
+                *place -= moved;
+                let other = random.below(self.lengths.len());
+                self.lengths[other] = self.lengths[other].wrapping_add(moved);
+            }
+        }
+    }
+
+    fn swap_with_next(&mut self, frame: usize) {
+        let (start, middle) = (self.start_of(frame), self.start_of(frame + 1));
+        if let Some(&next) = self.lengths.get(frame + 1) {
+            let end = middle.saturating_add(next).min(self.frames.len());
+            self.frames[start..end].rotate_left(middle - start);
+            self.lengths.swap(frame, frame + 1);
+        }
+    }
+
+    fn leave_out(&mut self, frame: usize) {
+        let (start, end) = (self.start_of(frame), self.start_of(frame + 1));
+        self.frames.drain(start..end);
+        self.lengths.remove(frame);
+    }
+}
+
+/// One field of a DATA header: M, SN, PS, PR, CH, LV or any bit.
+fn change_header(random: &mut Random, frame: &mut [u8]) {
+    let [b0, b1, b2, ..] = frame else { return };
+    let (high, low) = (random.byte() << 4, random.byte() & 15);
+    match random.below(9) {
+        0 | 1 => *b0 ^= 0x40,
+        2 => *b0 = *b0 & 0xC0 | b0.wrapping_add(1) & 0x3F,
+        3 => *b0 ^= 1 << random.below(8),
+        4 => *b1 = *b1 & 0x0F | high,
+        5 => *b1 = *b1 & 0xF0 | low,
+        6 => *b2 = *b2 & 0x0F | high,
+        7 => *b2 = *b2 & 0xF0 | low,
+        _ => *b2 ^= 1 << random.below(8),
+    }
+}
+
+/// A byte of the last segment, where the padding is.
+fn change_tail(random: &mut Random, frame: &mut [u8]) {
+    let back = 1 + random.below(10);
+    if let Some(at) = frame.len().checked_sub(back) {
+        frame[at] = random.pick(&[0, 1, 0x80]);
+    }
+}
+
+fn some_start(random: &mut Random) -> Start {
+    let near = |random: &mut Random, bits: u32| match random.below(3) {
+        0 => ((1u8 << bits) - 1) - random.below(3) as u8,
+        _ => random.field(bits),
+    };
+    Start {
+        sn: near(random, 6),
+        ps: near(random, 4),
+        pr: random.field(4),
+        ch: random.field(4),
+    }
+}
+
+/// A length around a multiple of the form's share, seldom around the longest.
+fn some_length(random: &mut Random, form: u8) -> usize {
+    let share = Form::from_number(form)
+        .and_then(Form::sizes)
+        .map_or(20, |sizes| sizes.largest - 3);
+    let around = |at: usize, random: &mut Random| (at + random.below(5)).saturating_sub(2);
+    match random.below(64) {
+        0 => around(4096, random),
+        1 => random.below(4097),
+        2 => random.pick(&[0, 1, 5000]),
+        3..=40 => around(share * random.below(5), random),
+        _ => random.below(4 * share),
+    }
+}
+
+fn some_cutting(random: &mut Random) -> Cutting {
+    let form = some_form(random);
+    let length = some_length(random, form);
+    let mut cutting = Cutting {
+        form,
+        start: some_start(random),
+        message: random.bytes(length),
+        room: 8192,
+        places: 600,
+    };
+    let needed = cutting.plain(&mut [0; 8192], &mut [0; 600]);
+    let (bytes, frames) = needed.map_or((160, 2), |made| (made.bytes, made.frames));
+    cutting.room = match random.below(8) {
+        0 => bytes - 1,
+        1 => random.below(bytes),
+        _ => bytes + random.below(12),
+    };
+    cutting.places = match random.below(8) {
+        0 => frames - 1,
+        1 => random.below(frames),
+        _ => frames + random.below(3),
+    };
+    cutting
+}
+
+fn cut_and_changed(trial: &mut Trial) {
+    let mut bed = Bed::new();
+    for _ in 0..trial.times(60_000, 300_000) {
+        let cutting = some_cutting(&mut trial.random);
+        let Some(good) = cutting.check(trial, &mut bed) else {
+            continue;
+        };
+        let back = good.check(trial, &mut bed);
+        assert_eq!(back.as_ref(), Ok(&cutting.message), "{cutting:?}");
+        for _ in 0..3 {
+            let mut changed = good.clone();
+            for _ in 0..1 + trial.random.below(3) {
+                changed.change(&mut trial.random);
+            }
+            if trial.random.one_in(16) {
+                changed.form = some_form(&mut trial.random);
+            }
+            let _ = changed.check(trial, &mut bed);
+        }
+    }
+}
+
+/// Each length in each form comes back; in the long setting all of them.
+fn every_length(trial: &mut Trial) {
+    let mut bed = Bed::new();
+    let start = Start {
+        sn: 60,
+        ps: 14,
+        pr: 9,
+        ch: 6,
+    };
+    let step = trial.times(61, 3) as usize;
+    for form in [0, 1].into_iter().chain(3..=18) {
+        let around = (0..320).chain((320..4080).step_by(step)).chain(4080..=4097);
+        for length in around {
+            let cutting = Cutting {
+                form,
+                start,
+                message: trial.random.bytes(length),
+                room: 6200,
+                places: 600,
+            };
+            if let Some(joining) = cutting.check(trial, &mut bed) {
+                let back = joining.check(trial, &mut bed);
+                assert_eq!(back, Ok(cutting.message));
+            }
+        }
+    }
+}
+
+/// Frames in a good run, each of any size, M as given to each.
+fn run_of_frames(random: &mut Random, form: u8, count: usize, most: usize) -> Joining {
+    let plain_form = Form::from_number(form).expect("a form");
+    let largest = plain_form.sizes().expect("a form").largest;
+    let Start { sn, ps, pr, ch } = some_start(random);
+    let mut joining = Joining {
+        form,
+        lengths: Vec::new(),
+        frames: Vec::new(),
+        room: 0,
+    };
+    for index in 0..count {
+        let packet = Packet::Data {
+            m: index + 1 < count,
+            sn: (sn as usize + index) as u8 % 64,
+            ps: (ps as usize + index) as u8 % 16,
+            pr: pr & 15,
+            ch: ch & 15,
+        };
+        let length = random.below(most.min(largest - 3) + 1);
+        let (user, mut out) = (random.bytes(length), [0; 160]);
+        let made = frame::write(plain_form, &packet, &user, &mut out).expect("it fits");
+        joining.frames.extend(&out[..made]);
+        joining.lengths.push(made);
+        joining.room += length;
+    }
+    joining
+}
+
+/// Runs of short frames, and runs that carry about as much as a message may.
+fn frames_of_any_size(trial: &mut Trial) {
+    let mut bed = Bed::new();
+    for _ in 0..trial.times(8_000, 60_000) {
+        let form = trial.random.pick(&[0, 1, 1, 3, 4, 10, 18]);
+        let count = 1 + trial.random.below(6);
+        let good = run_of_frames(&mut trial.random, form, count, 160);
+        assert!(good.check(trial, &mut bed).is_ok());
+        let mut changed = good;
+        changed.change(&mut trial.random);
+        let _ = changed.check(trial, &mut bed);
+    }
+    for _ in 0..trial.times(300, 3_000) {
+        let count = 50 + trial.random.below(9);
+        let mut long = run_of_frames(&mut trial.random, 1, count, 149);
+        // Half the runs carry over 4,096 bytes; some lack room as well, or break late.
+        if trial.random.one_in(3) {
+            long.room = trial.random.below(long.room);
+        }
+        let _ = long.check(trial, &mut bed);
+        long.change(&mut trial.random);
+        let _ = long.check(trial, &mut bed);
+    }
+    at_the_longest(trial, &mut bed);
+}
+
+/// 4,096 and 4,097 bytes in frames that are not full.
+fn at_the_longest(trial: &mut Trial, bed: &mut Bed) {
+    for total in 4094..=4098 {
+        let mut joining = Joining {
+            form: 1,
+            lengths: Vec::new(),
+            frames: Vec::new(),
+            room: total,
+        };
+        for index in 0..41u8 {
+            let packet = Packet::Data {
+                m: index < 40,
+                sn: index,
+                ps: index % 16,
+                pr: 0,
+                ch: 1,
+            };
+            let length = if index < 40 { 100 } else { total - 4000 };
+            let (user, mut out) = (trial.random.bytes(length), [0; 160]);
+            let made = frame::write(Form::LongUplink, &packet, &user, &mut out).expect("it fits");
+            joining.frames.extend(&out[..made]);
+            joining.lengths.push(made);
+        }
+        let wanted = if total > 4096 { Err(4) } else { Ok(total) };
+        for room in [total, total - 1, 0] {
+            joining.room = room;
+            let got = joining.check(trial, bed).map(|message| message.len());
+            let wanted = if room < total {
+                wanted.and(Err(5))
+            } else {
+                wanted
+            };
+            assert_eq!(by_number(got), wanted);
+        }
+    }
+}
+
+/// Inputs that deserve several refusals, by the numbers that the rules put first.
+fn several_refusals(trial: &mut Trial) {
+    let mut bed = Bed::new();
+    let start = Start {
+        sn: 0,
+        ps: 0,
+        pr: 0,
+        ch: 0,
+    };
+    let wide = Start { sn: 64, ..start };
+    for (form, start, length, room, places, number) in [
+        (2, start, 5000, 0, 0, 1),
+        (1, wide, 5000, 0, 0, 1),
+        (1, Start { pr: 16, ..start }, 5000, 0, 0, 1),
+        (1, start, 4097, 0, 0, 4),
+        (1, start, 4096, 0, 0, 5),
+        (1, start, 150, 170, 1, 5),
+        (1, start, 150, 169, 2, 5),
+    ] {
+        let cutting = Cutting {
+            form,
+            start,
+            message: vec![3; length],
+            room,
+            places,
+        };
+        let refusal = cutting.plain(&mut vec![0; room], &mut vec![0; places]);
+        assert_eq!(refusal.unwrap_err().number(), number, "{cutting:?}");
+        assert!(cutting.check(trial, &mut bed).is_none());
+    }
+    joining_several_refusals(trial, &mut bed);
+}
+
+/// Three frames of ten bytes, SN and PS 63, 0, 1 and 15, 0, 1; changed at some places.
+fn three(changes: &[(usize, u8)]) -> Vec<u8> {
+    let mut frames = vec![0; 30];
+    for (start, front) in [
+        (0, [0xFF, 0xF0, 4]),
+        (10, [0xC0, 0, 4]),
+        (20, [0x81, 0x10, 4]),
+    ] {
+        frames[start..][..3].copy_from_slice(&front);
+    }
+    for &(at, byte) in changes {
+        frames[at] = byte;
+    }
+    frames
+}
+
+fn joining_several_refusals(trial: &mut Trial, bed: &mut Bed) {
+    let tens = vec![10; 3];
+    let cases = [
+        (2, vec![], vec![], 0, 1),
+        (1, vec![], vec![], 0, 2),
+        (1, vec![], three(&[]), 0, 2),
+        (1, vec![usize::MAX, 31], three(&[]), 3, 2),
+        (1, vec![10; 4], three(&[(0, 0)]), 0, 2), // the sum before the first frame's 3
+        (1, vec![10, 0, 20], three(&[(0, 0)]), 0, 3), // frame 0's 3 before frame 1's 2
+        (1, vec![10, 0, 20], three(&[]), 0, 2),
+        (1, tens.clone(), three(&[(10, 0x85)]), 0, 3), // M before the run
+        (1, tens.clone(), three(&[(10, 0xC5), (29, 1)]), 0, 17), // frame 1's 17, frame 2's 3
+        (1, tens.clone(), three(&[(20, 0xC5)]), 0, 17), // the run before the last M
+        (1, tens.clone(), three(&[(20, 0xC1)]), 0, 2), // the last M before no room
+        (
+            1,
+            tens.clone(),
+            three(&[(20, 0x5C), (21, 0), (22, 0)]),
+            0,
+            3,
+        ), // not DATA
+        (1, tens.clone(), three(&[]), 2, 5),
+        (3, vec![20, 10], three(&[(10, 0)]), 0, 13), // too long before no room
+        (0, tens, three(&[(0, 0)]), 0, 2),           // no whole segments before first bits
+    ];
+    for (form, lengths, frames, room, number) in cases {
+        let joining = Joining {
+            form,
+            lengths,
+            frames,
+            room,
+        };
+        let refusal = joining.check(trial, bed).unwrap_err();
+        assert_eq!(refusal.number(), number, "{joining:x?}");
+    }
+}

@@ -1,0 +1,168 @@
+//! How often each call answered each number, against what the header lists.
+
+use std::fmt::Write;
+use std::sync::{Mutex, PoisonError};
+
+use super::say;
+
+/// One call: the subject that tries it, the numbers it has to answer there, and those it has to
+/// answer where lists of wrong lengths are lent. 0 is done. The answer of an `in_order` is no
+/// refusal: 1 is yes, 0 no.
+struct Row {
+    name: &'static str,
+    home: &'static str,
+    listed: &'static [u8],
+    by_length: &'static [u8],
+}
+
+macro_rules! calls {
+    ($($call:ident $name:literal $home:literal $listed:expr, $by_length:expr;)*) => {
+        /// The calls of the header.
+        #[derive(Clone, Copy)]
+        pub enum Call { $($call),* }
+
+        const ROWS: &[Row] = &[$(Row {
+            name: $name,
+            home: $home,
+            listed: &$listed,
+            by_length: &$by_length,
+        }),*];
+    };
+}
+
+calls! {
+    LinkDistance "pk_link_distance" "window" [0], [];
+    LinkNext "pk_link_next" "window" [0], [];
+    PacketDistance "pk_packet_distance" "window" [0], [];
+    PacketNext "pk_packet_next" "window" [0], [];
+    SenderFresh "pk_sender_fresh" "window" [0], [14];
+    SenderInOrder "pk_sender_in_order" "window" [0, 1], [0];
+    SenderSend "pk_sender_send" "window" [0, 14, 9], [14];
+    SenderAcknowledge "pk_sender_acknowledge" "window" [0, 14, 1, 16], [14];
+    ReceiverFresh "pk_receiver_fresh" "window" [0], [14];
+    ReceiverInOrder "pk_receiver_in_order" "window" [0, 1], [0];
+    ReceiverReceive "pk_receiver_receive" "window" [0, 14, 1, 12, 10, 11], [14];
+    ReceiverTell "pk_receiver_tell" "window" [0, 14], [14];
+    ResequencerFresh "pk_resequencer_fresh" "resequencer" [0], [14];
+    ResequencerInOrder "pk_resequencer_in_order" "resequencer" [0, 1], [0];
+    ResequencerArrive "pk_resequencer_arrive" "resequencer" [0, 14, 1], [14];
+    ResequencerClockEnd "pk_resequencer_clock_end" "resequencer" [0, 14, 1, 7], [14];
+    FrameWrite "pk_frame_write" "frames" [0, 1, 13, 5], [14];
+    FrameRead "pk_frame_read" "frames" [0, 1, 2, 3, 13], [14];
+    MessageCut "pk_message_cut" "messages" [0, 1, 4, 5], [];
+    MessageJoin "pk_message_join" "messages" [0, 1, 2, 3, 13, 17, 4, 5], [];
+    TableEmpty "pk_table_empty" "routes" [0], [14];
+    TableCodes "pk_table_codes" "routes" [0], [14];
+    TableCount "pk_table_count" "routes" [0], [14];
+    TableChoose "pk_table_choose" "choice" [0, 1, 8, 15], [14];
+    TableUpdate "pk_table_update" "routes" [0, 6], [14];
+    Choose "pk_choose" "choice" [0, 1, 8, 15], [];
+}
+
+/// The subject that lends lists of wrong lengths.
+const LENGTHS: &str = "lengths";
+const SUBJECTS: usize = 7;
+const NUMBERS: usize = 18;
+
+type Counts = [[u64; NUMBERS]; ROWS.len()];
+
+/// What all subjects have seen so far, and how many have finished.
+static SEEN: Mutex<(Counts, usize)> = Mutex::new(([[0; NUMBERS]; ROWS.len()], 0));
+
+/// What one subject has seen.
+pub struct Tally {
+    subject: &'static str,
+    counts: Counts,
+}
+
+impl Tally {
+    pub fn new(subject: &'static str) -> Self {
+        Tally {
+            subject,
+            counts: [[0; NUMBERS]; ROWS.len()],
+        }
+    }
+
+    /// Counts one answer by its low 8 bits.
+    #[track_caller]
+    pub fn saw(&mut self, call: Call, answer: u64) {
+        let number = usize::from(answer as u8);
+        assert!(
+            number < NUMBERS,
+            "{} answered {answer:#x}",
+            ROWS[call as usize].name
+        );
+        self.counts[call as usize][number] += 1;
+    }
+
+    /// Adds to what the other subjects saw, prints the table after the last of them, and fails
+    /// if a number that the header lists was never answered, or one that it does not list was.
+    pub fn finish(self) {
+        let mut seen = SEEN.lock().unwrap_or_else(PoisonError::into_inner);
+        for (sum, row) in seen.0.iter_mut().zip(&self.counts) {
+            sum.iter_mut()
+                .zip(row)
+                .for_each(|(sum, count)| *sum += count);
+        }
+        seen.1 += 1;
+        if seen.1 == SUBJECTS {
+            say(&table(&seen.0));
+        }
+        drop(seen);
+        let faults: Vec<String> = self.faults().collect();
+        assert!(faults.is_empty(), "{}", faults.join("\n"));
+    }
+
+    fn faults(&self) -> impl Iterator<Item = String> + '_ {
+        let rows = ROWS.iter().zip(&self.counts);
+        rows.flat_map(|(row, counts)| {
+            let wanted = self.wanted(row);
+            (0..).zip(counts).filter_map(move |(number, &count)| {
+                let listed = row.listed.contains(&number) || row.by_length.contains(&number);
+                match (wanted.contains(&number), listed, count) {
+                    (true, _, 0) => Some(format!("{} never answered {number}", row.name)),
+                    (_, false, 1..) => Some(format!("{} answered {number}", row.name)),
+                    _ => None,
+                }
+            })
+        })
+    }
+
+    /// The numbers that this subject has to see from a call.
+    fn wanted(&self, row: &Row) -> &'static [u8] {
+        if self.subject == LENGTHS {
+            row.by_length
+        } else if self.subject == row.home {
+            row.listed
+        } else {
+            &[]
+        }
+    }
+}
+
+/// The table of all calls and numbers; a number that was never answered is left out.
+fn table(counts: &Counts) -> String {
+    let mut text = String::from("\nanswers by number (0 done; of an in_order: 1 yes, 0 no)\n");
+    for (row, counts) in ROWS.iter().zip(counts) {
+        write!(text, "{:26}", row.name).unwrap();
+        for (number, count) in counts.iter().enumerate().filter(|(_, &count)| count > 0) {
+            write!(text, " {number}:{count}").unwrap();
+        }
+        text.push('\n');
+    }
+    let refusals = ROWS
+        .iter()
+        .zip(counts)
+        .filter(|(row, _)| !row.name.ends_with("in_order"));
+    let mut sums = [0; NUMBERS];
+    for (_, counts) in refusals {
+        sums.iter_mut()
+            .zip(counts)
+            .for_each(|(sum, count)| *sum += count);
+    }
+    text.push_str("each refusal over all calls:");
+    for (number, sum) in sums.iter().enumerate().skip(1) {
+        write!(text, " {number}:{sum}").unwrap();
+    }
+    text + "\n"
+}
