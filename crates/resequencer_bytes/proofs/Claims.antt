@@ -1,16 +1,16 @@
 -- The claims of the stored state: each refusal's number fits a byte, and a refused call is told by the given state.
 -- Assumes nothing.
-use mathlib.Core.Path.{_≡_, refl, sym, ap, ap₂, _∙_, subst}
-use mathlib.Core.Bool.{Bool, true, false, cond, _&&_}
+use mathlib.Core.Path.{_≡_, refl, sym, ap, _∙_, subst}
+use mathlib.Core.Bool.{Bool, true, false, cond}
 use mathlib.Core.List.{List}
 use mathlib.Core.Logic.{_≢_}
 use Prim.Native.Nat.{ℕ, _+_, _*_, _%_, _<_}
 use native.Mathlib.Omega.{arith}
-use lib.Dec.{eqb, lit<}
+use lib.Dec.{lit<}
 use lib.ListN.{length}
 use borrow.Author.Tests.{eqb-true, ne-eqb}
 use Rattle.refusal.specs.declared.Refusal.{Refusal}
-use Rattle.refusal.specs.declared.Refusal.the-variants.{OutOfRange, Malformed, FormatError, MessageTooLong, OutputTooShort, RouteListMalformed, NoClock, NoInterrogator, WindowClosed, OutsideWindow, OutOfSequence, FirstNotZero, PacketTooLong, NotInOrder, AllFailed, NeverSent, RunBroken}
+use Rattle.refusal.proofs.Numbers.{number-range}
 use Rattle.refusal.specs.Numbers.{numberOf}
 use Rattle.refusal.proofs.Checks.{both-true}
 use Rattle.little.specs.Law.{Below}
@@ -29,25 +29,6 @@ stored-law = record { read-back = state-back; written-back = written-back }
 
 -- ---- refusals
 
-number-fits : (why : Refusal) → numberOf why < 256
-number-fits OutOfRange = lit< tt
-number-fits Malformed = lit< tt
-number-fits FormatError = lit< tt
-number-fits MessageTooLong = lit< tt
-number-fits OutputTooShort = lit< tt
-number-fits RouteListMalformed = lit< tt
-number-fits NoClock = lit< tt
-number-fits NoInterrogator = lit< tt
-number-fits WindowClosed = lit< tt
-number-fits OutsideWindow = lit< tt
-number-fits OutOfSequence = lit< tt
-number-fits FirstNotZero = lit< tt
-number-fits PacketTooLong = lit< tt
-number-fits NotInOrder = lit< tt
-number-fits AllFailed = lit< tt
-number-fits NeverSent = lit< tt
-number-fits RunBroken = lit< tt
-
 -- what is not refused has the lowest byte 0, and a plain refusal is its number
 low-byte : (o : Outcome) (k : ℕ) → outcomeNumber o ≡ 0 → (outcomeNumber o + 256 * outcomeKind o + 65536 * k) % 256 ≡ 0
 low-byte o k e = omega arith
@@ -57,7 +38,7 @@ refused-small Held h = absurd (h refl)
 refused-small HandedOn h = absurd (h refl)
 refused-small Old h = absurd (h refl)
 refused-small Duplicate h = absurd (h refl)
-refused-small (Refused why) h = omega (arith, number-fits why)
+refused-small (Refused why) h = omega (arith, number-range why .1)
 
 -- a refused answer is plain
 abbrev Plain : Resequencer → Answer → Type 0

@@ -8,7 +8,7 @@ use native.Mathlib.Omega.{arith}
 use lib.ListN.{length, getD, take, drop, set, length-drop}
 use lib.Seq.{drop-cons, take-all}
 use Rattle.lists.specs.Lists.{listFrom}
-use Rattle.lists.proofs.Lists.{is-from, filled, fill-next, fill-end}
+use Rattle.lists.proofs.Lists.{is-from, filled, fill-next}
 use Rattle.little.specs.Little.{littleOf, littleList}
 use Rattle.little.proofs.Little.{length-list}
 use Rattle.little.proofs.Places.{list-at}

@@ -1,15 +1,14 @@
 -- A state and its bytes tell each other.
 -- Assumes nothing.
-use mathlib.Core.Path.{_≡_, refl, sym, ap, ap₂, _∙_}
-use mathlib.Core.List.{List, [], _∷_, _++_}
-use Prim.Native.Nat.{ℕ, suc, _+_, _≤_}
+use mathlib.Core.Path.{_≡_, sym, ap, ap₂, _∙_}
+use mathlib.Core.List.{List, _∷_, _++_}
+use Prim.Native.Nat.{ℕ, _+_, _≤_}
 use native.Mathlib.Omega.{arith}
 use lib.ListN.{length, getD, take, drop, length-drop, take-append-drop}
-use lib.Seq.{length-take-le, drop-cons, drop-drop, take-all}
+use lib.Seq.{length-take-le, drop-cons, drop-drop}
 use Rattle.little.specs.Little.{littleOf, littleBytes, littleList, listBytes}
 use Rattle.little.specs.Law.{Below}
 use Rattle.little.proofs.Little.{read-back, written-back as number-back, list-read-back, list-written-back, below-take, below-drop}
-use Rattle.sequence.specs.Numbers.{link}
 use Rattle.resequencer.specs.declared.Resequencer.{Resequencer}
 use Rattle.resequencer_bytes.specs.Stored.{stateIn, stateBytes}
 use Rattle.resequencer_bytes.specs.Claims.{Fits}

@@ -1,10 +1,7 @@
 -- `resequencer_bytes::in_order` meets its contract: each way out knows the tests that led there.
 -- Assumes nothing.
-use mathlib.Core.Path.{_≡_, refl, sym, ap, _∙_}
-use mathlib.Core.Bool.{Bool, _&&_}
+use mathlib.Core.Path.{sym, ap, _∙_}
 use borrow.Author.Needs.{needs}
-use Rattle.resequencer.specs.declared.Resequencer.{Resequencer}
-use Rattle.resequencer.specs.State.{goodOrder}
 use Rattle.wordset.specs.Sets.{digit}
 use Rattle.resequencer_bytes.proofs.Calls.{order-none, order-told}
 use Rattle.resequencer_bytes.proofs.in_order.Statement.{statement}

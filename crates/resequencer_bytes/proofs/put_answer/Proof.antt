@@ -1,6 +1,5 @@
 -- `resequencer_bytes::put_answer` meets its contract: the outcome's number tells whether anything is written.
 -- Assumes nothing.
-use mathlib.Core.Path.{_∙_}
 use native.Mathlib.Omega.{arith}
 use borrow.Author.Needs.{needs}
 use Rattle.resequencer_bytes.proofs.Calls.{kind-most, code-is, taken, refused}

@@ -1,14 +1,13 @@
 -- `resequencer_bytes::put_handed` meets its contract: the places before `i` are copied.
 -- Assumes nothing.
-use mathlib.Core.Path.{_≡_, refl, sym, ap, ap₂, _∙_}
-use mathlib.Core.List.{List, _++_, append-nil}
-use Prim.Native.Nat.{ℕ, _+_, _-_, _≤_}
-use native.Mathlib.Numerals.{add-one}
+use mathlib.Core.Path.{_≡_, ap, _∙_}
+use mathlib.Core.List.{List}
+use Prim.Native.Nat.{ℕ, _-_, _≤_}
 use native.Mathlib.Omega.{arith}
 use borrow.Author.Needs.{needs}
 use borrow.Kind.Array.{eInt, good-length}
-use lib.ListN.{length, getD, set, drop, take, length-set, drop-of-length-le}
-use lib.Seq.{take-all, paste, paste-zero, paste-suc}
+use lib.ListN.{length, getD, set, length-set}
+use lib.Seq.{paste, paste-zero}
 use mir.Syntax.{w16}
 use Rattle.resequencer_bytes.proofs.Writing.{copy-next, copied}
 use Rattle.resequencer_bytes.proofs.put_handed.Statement.{statement}

@@ -1,8 +1,6 @@
 -- `resequencer_bytes::put_state` meets its contract: the parts are written one after the other.
 -- Assumes nothing.
 use borrow.Author.Needs.{needs}
-use borrow.Kind.Array.{eInt, good-length}
-use mir.Syntax.{w16}
 use Rattle.resequencer_bytes.proofs.Writing.{state-put}
 use Rattle.resequencer_bytes.proofs.put_state.Statement.{statement}
 use Rattle.resequencer_bytes.proofs.put_state.Tie as tie

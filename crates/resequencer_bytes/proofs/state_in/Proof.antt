@@ -1,8 +1,5 @@
 -- `resequencer_bytes::state_in` meets its contract: field by field.
 -- Assumes nothing.
-use mathlib.Core.Path.{_≡_, ap, ap₂, _∙_}
-use mathlib.Core.List.{List}
-use Prim.Native.Nat.{ℕ}
 use borrow.Author.Needs.{needs}
 use Rattle.resequencer_bytes.proofs.Reading.{read-state}
 use Rattle.resequencer_bytes.proofs.state_in.Statement.{statement}
