@@ -1,6 +1,8 @@
--- What the copying loop keeps: the user data copied so far stands at the front of the lent output, and what was there behind it.
+-- What the copying loop keeps: the user data copied so far stands at the front of the lent output, and what was there behind it; the frames from
+-- here on are DATA.
 -- Assumes nothing.
 use mathlib.Core.Path.{_≡_, refl, sym, ap, ap₂, _∙_}
+use mathlib.Core.Bool.{true}
 use mathlib.Core.List.{List, [], _++_, append-assoc, append-nil}
 use Prim.Native.Nat.{ℕ, _+_, _-_, _≤_, _<_}
 use native.Mathlib.Omega.{arith}
@@ -10,18 +12,22 @@ use Rattle.codec.proofs.Writing.{paste-after}
 use Rattle.lists.specs.Lists.{over}
 use Rattle.lists.specs.Frames.{partsOf, sum}
 use Rattle.form.specs.declared.Form.{Form}
+use Rattle.frame.specs.Reading.{readOf}
 use Rattle.joining.specs.Joining.{messageIn, userIn}
+use Rattle.joining.specs.Parts.{isData, allData}
 use Rattle.joining.proofs.Places.{from, At, from-here, from-end, at-start, at-next, part-is}
+use Rattle.joining.proofs.Users.{data-parts}
 
 pub record Copying (form : Form) (ls bytes out₀ out : List ℕ) (at p i : ℕ) : Type 0 where
   pub place : At ls bytes p i
   pub copied : List ℕ
   pub long : length copied ≡ at
   pub text : out ≡ copied ++ drop at out₀
+  pub data-left : allData form (from ls bytes p i) ≡ true
   pub whole : copied ++ messageIn form (from ls bytes p i) ≡ messageIn form (partsOf ls bytes)
 
-pub starts : (form : Form) (ls bytes out₀ : List ℕ) → sum ls ≡ length bytes → Copying form ls bytes out₀ out₀ 0 0 0
-starts form ls bytes out₀ e = record { place = at-start ls bytes e; copied = []; long = refl; text = refl; whole = refl }
+pub starts : (form : Form) (ls bytes out₀ : List ℕ) → sum ls ≡ length bytes → allData form (partsOf ls bytes) ≡ true → Copying form ls bytes out₀ out₀ 0 0 0
+starts form ls bytes out₀ e d = record { place = at-start ls bytes e; copied = []; long = refl; text = refl; data-left = d; whole = refl }
 
 module _ (form : Form) (ls bytes out₀ out : List ℕ) (at p i : ℕ) (v : Copying form ls bytes out₀ out at p i) (h : i < length ls) where
   more : (v .copied ++ userIn form (take (p + getD ls i 0 - p) (drop p bytes))) ++ messageIn form (from ls bytes (p + getD ls i 0) (i + 1)) ≡ messageIn form (partsOf ls bytes)
@@ -33,6 +39,15 @@ module _ (form : Form) (ls bytes out₀ out : List ℕ) (at p i : ℕ) (v : Copy
       ∙ ap (λ (f : List ℕ). v .copied ++ (userIn form f ++ rest)) (part-is bytes p (getD ls i 0))
       ∙ ap (λ (fs : List (List ℕ)). v .copied ++ messageIn form fs) (sym (from-here ls bytes p i h))
       ∙ v .whole
+
+  -- the frame is DATA, and so are those after it
+  data-here : (isData (readOf form (take (getD ls i 0) (drop p bytes))) ≡ true) × (allData form (from ls bytes (p + getD ls i 0) (i + 1)) ≡ true)
+  data-here =
+      data-parts form (take (getD ls i 0) (drop p bytes)) (from ls bytes (p + getD ls i 0) (i + 1))
+      (sym (ap (allData form) (from-here ls bytes p i h)) ∙ v .data-left)
+
+  pub is-data : isData (readOf form (take (p + getD ls i 0 - p) (drop p bytes))) ≡ true
+  is-data = ap (λ (f : List ℕ). isData (readOf form f)) (part-is bytes p (getD ls i 0)) ∙ data-here .0
 
   -- there is room for the frame's user data
   pub asks : length (messageIn form (partsOf ls bytes)) ≤ length out₀
@@ -56,6 +71,7 @@ module _ (form : Form) (ls bytes out₀ out : List ℕ) (at p i : ℕ) (v : Copy
         text =
             eo ∙ ap (λ (o : List ℕ). paste o at user (length user)) (v .text) ∙ paste-after (v .copied) out₀ user at (v .long)
             ∙ ap (λ (x : ℕ). (v .copied ++ user) ++ drop (at + x) out₀) (sym en);
+        data-left = data-here .1;
         whole = more;
       }
 

@@ -1,15 +1,18 @@
 -- What the private functions of `joining` promise.
 -- Assumes nothing.
-use mathlib.Core.Bool.{Bool}
-use mathlib.Core.List.{List}
+use mathlib.Core.Bool.{Bool, true, false, _&&_}
+use mathlib.Core.List.{List, [], _∷_}
 use Prim.Native.Nat.{ℕ}
 use lib.ListN.{length}
 use Rattle.refusal.specs.declared.Refusal.the-variants.{FormatError}
 use Rattle.refusal.specs.declared.Verdict.{Verdict}
 use Rattle.refusal.specs.declared.Verdict.the-variants.{Done, Refused}
+use Rattle.form.specs.declared.Form.{Form}
 use Rattle.frame.specs.declared.Packet.{Packet}
 use Rattle.frame.specs.declared.Packet.the-variants.{Data as DataPacket, ClearRequest, ClearConfirmation}
 use Rattle.frame.specs.declared.Read.{Read}
+use Rattle.frame.specs.declared.Read.the-variants.{Packet as PacketRead, Refused as NotRead}
+use Rattle.frame.specs.Reading.{readOf}
 use Rattle.joining.specs.declared.Before.{Before}
 use Rattle.joining.specs.declared.Before.the-variants.{Nothing, Packet as PacketBefore}
 use Rattle.joining.specs.declared.Turn.{Turn}
@@ -42,3 +45,15 @@ turnOf before last r frame = turnBy (turnVerdict before last r) (nextBefore r) (
 abbrev pub sized : Joined → ℕ → Joined
 sized (Bytes n) room = joinBy (sizeVerdict n room) n
 sized (NotJoined why) room = NotJoined why
+
+-- a frame that reads, and is DATA
+abbrev pub isData : Read → Bool
+isData (PacketRead (DataPacket d) place) = true
+isData (PacketRead (ClearRequest d) place) = false
+isData (PacketRead (ClearConfirmation d) place) = false
+isData (NotRead why) = false
+
+-- every frame reads, and is DATA
+unfoldable pub allData : Form → List (List ℕ) → Bool
+allData form [] = true
+allData form (f ∷ fs) = isData (readOf form f) && allData form fs

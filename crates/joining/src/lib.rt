@@ -1,5 +1,6 @@
 // DATA frames joined to a message (document 01, "Cutting and joining").
 ghost use mathlib.Core.Path.{_≡_};
+ghost use mathlib.Core.Bool.{true};
 ghost use Prim.Native.Nat.{_+_, _≤_};
 ghost use lib.Dec.{eqb};
 ghost use lib.ListN.{length};
@@ -8,7 +9,7 @@ ghost use Rattle.lists.specs.Lists.{over};
 ghost use Rattle.lists.specs.Frames.{partsOf, sum};
 ghost use Rattle.frame.specs.Reading.{readOf};
 ghost use Rattle.joining.specs.Joining.{userIn, joinedNumber, follows, dataVerdict, framesVerdict, messageIn, joinBy, joinOf, joinOutput};
-ghost use Rattle.joining.specs.Parts.{dataIn, packetVerdict, turnOf, sized};
+ghost use Rattle.joining.specs.Parts.{dataIn, packetVerdict, turnOf, sized, isData, allData};
 use form::Form;
 use frame::Data;
 use frame::Packet;
@@ -219,26 +220,23 @@ fn copy_in(out: &mut [u8], at: usize, bytes: &[u8])
     }
 }
 
-// Copies a frame's user data into out, from index at, and answers how many bytes these are.
+// Copies a DATA frame's user data into out, from index at, and answers how many bytes these are. The frame was read before: its user data stands
+// after the header of three bytes, and LV, the low half of the third, tells how long the packet is.
 fn copy_user(form: Form, frame: &[u8], out: &mut [u8], at: usize) -> usize
-    requires { ⌜ at + length (userIn form (now frame)) ≤ length (now out) ⌝ }
+    requires { ⌜ (isData (readOf form (now frame)) ≡ true) × (at + length (userIn form (now frame)) ≤ length (now out)) ⌝ }
     ensures { λ r. ⌜ r ≡ length (userIn form (now (frame .entry))) ⌝ }
     ensures written { λ _. ⌜ now (out .exit) ≡ paste (now (out .entry)) at (userIn form (now (frame .entry))) (length (userIn form (now (frame .entry)))) ⌝ }
 {
-    let read = frame::read_frame(form, frame);
-    match read {
-        Read::Packet(_packet, place) => {
-            let user = frame::user_data(frame, place);
-            copy_in(out, at, user);
-            user.len()
-        }
-        Read::Refused(_why) => 0,
-    }
+    let lv = frame[2] % 16;
+    let end = frame.len() - form.segment() + lv as usize;
+    copy_in(out, at, &frame[3..end]);
+    end - 3
 }
 
-// Copies the user data of all frames to the front of out.
+// Copies the user data of all frames, each a DATA frame, to the front of out.
 fn copy_users(form: Form, lengths: &[usize], frames: &[u8], out: &mut [u8])
-    requires { ⌜ (sum (now lengths) ≡ length (now frames)) × (length (messageIn form (partsOf (now lengths) (now frames))) ≤ length (now out)) ⌝ }
+    requires { ⌜ (sum (now lengths) ≡ length (now frames)) × (length (messageIn form (partsOf (now lengths) (now frames))) ≤ length (now out))
+        × (allData form (partsOf (now lengths) (now frames)) ≡ true) ⌝ }
     ensures { λ _. ⌜ now (out .exit) ≡ over (messageIn form (partsOf (now (lengths .entry)) (now (frames .entry)))) (now (out .entry)) ⌝ }
 {
     let mut at = 0;

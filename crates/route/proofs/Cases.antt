@@ -8,13 +8,11 @@ use lib.ListN.{length}
 use borrow.Author.Tests.{lt-leb, le-leb}
 use Rattle.refusal.specs.declared.Refusal.the-variants.{RouteListMalformed}
 use Rattle.refusal.specs.declared.Verdict.the-variants.{Done, Refused}
-use Rattle.route.specs.declared.Collected.{Collected}
-use Rattle.route.specs.declared.Report.{Report}
 use Rattle.route.specs.declared.Table.{Table}
 use Rattle.route.specs.declared.Updated.{Updated}
 use Rattle.route.specs.Entries.{Parsed, cut, whole, entriesIn}
-use Rattle.route.specs.Updating.{tableAfter, lostBetween, reported, updateBy, updateOf}
-use Rattle.route.specs.Parts.{noChange, collectedBy, settled, reportOf}
+use Rattle.route.specs.Updating.{those, tableAfter, lostBetween, reported, updateBy, updateOf}
+use Rattle.route.specs.Parts.{Change, Report, report, noChange, collectedBy, Found, settled, reportOf, lostIn}
 use Rattle.route.proofs.Joining.{settled-after}
 
 module _ (t : Table) (xs : List ℕ) where
@@ -26,24 +24,25 @@ module _ (t : Table) (xs : List ℕ) where
   unfolding updateOf
   update-short p h e = ap₂ (λ (b : Bool) (q : Parsed). updateBy b q t) (le-leb _ _ h) e
 
-  module _ (c : Collected) (h : length xs ≤ 255) (e : c ≡ collectedBy (entriesIn xs) noChange) where
-    pub update-cut : c .whole ≡ false → updateOf t xs ≡ reported (Refused RouteListMalformed) t []
-    update-cut w = go (entriesIn xs) refl e
+  module _ (w : Bool) (c : Change) (h : length xs ≤ 255) (f : Found (collectedBy (entriesIn xs) noChange) w c) where
+    pub update-cut : w ≡ false → updateOf t xs ≡ reported (Refused RouteListMalformed) t []
+    update-cut e = go (entriesIn xs) refl (f .told)
       where
-        go : (p : Parsed) → entriesIn xs ≡ p → c ≡ collectedBy p noChange → updateOf t xs ≡ reported (Refused RouteListMalformed) t []
-        go cut q e = update-short cut h q
-        go (whole es) q e = absurd (false≢true (sym w ∙ ap (λ (x : Collected). x .whole) e))
+        go : (p : Parsed) → entriesIn xs ≡ p → w ≡ collectedBy p noChange .whole → updateOf t xs ≡ reported (Refused RouteListMalformed) t []
+        go cut q d = update-short cut h q
+        go (whole es) q d = absurd (false≢true (sym e ∙ d))
 
-    pub update-done : c .whole ≡ true → (codes : List ℕ) → codes ≡ settled (t .codes) (c .change)
-        → (r : Report) → r ≡ reportOf (lostBetween t (record { codes = codes }))
-        → record { verdict = Done; table = record { codes = codes }; count = r .count; lost = r .lost } ≡ updateOf t xs
-    update-done w codes n r l = go (entriesIn xs) refl e
+    pub update-done : w ≡ true → (codes : List ℕ) → codes ≡ settled (t .codes) c → (count : ℕ) (lost : List ℕ)
+        → report count lost ≡ reportOf (those 256 (lostIn (t .codes) codes))
+        → record { verdict = Done; table = record { codes = codes }; count = count; lost = lost } ≡ updateOf t xs
+    unfolding lostBetween
+    update-done e codes n count lost l = go (entriesIn xs) refl (f .told) (f .gathered e)
       where
         answer : List ℕ → Report → Updated
         answer codes r = record { verdict = Done; table = record { codes = codes }; count = r .count; lost = r .lost }
 
-        go : (p : Parsed) → entriesIn xs ≡ p → c ≡ collectedBy p noChange → answer codes r ≡ updateOf t xs
-        go cut q e = absurd (false≢true (sym (ap (λ (x : Collected). x .whole) e) ∙ w))
-        go (whole es) q e =
-            let after : codes ≡ tableAfter es t .codes = n ∙ ap (λ (x : Collected). settled (t .codes) (x .change)) e ∙ settled-after es t in
+        go : (p : Parsed) → entriesIn xs ≡ p → w ≡ collectedBy p noChange .whole → c ≡ collectedBy p noChange .change → answer codes (report count lost) ≡ updateOf t xs
+        go cut q d g = absurd (false≢true (sym d ∙ e))
+        go (whole es) q d g =
+            let after : codes ≡ tableAfter es t .codes = n ∙ ap (settled (t .codes)) g ∙ settled-after es t in
             ap (answer codes) l ∙ ap (λ (x : List ℕ). answer x (reportOf (lostBetween t (record { codes = x })))) after ∙ sym (update-short (whole es) h q)

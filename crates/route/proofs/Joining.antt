@@ -12,11 +12,10 @@ use Rattle.lists.proofs.Lists.{length-from, from-at, is-from, from-same, set-fr
 use Rattle.wordset.specs.Sets.{member, setOf, with}
 use Rattle.wordset.proofs.Sets.{member-none, setOf-lt, member-setOf, setOf-same}
 use Rattle.wordset.proofs.Words.{is-set}
-use Rattle.route.specs.declared.Change.{Change}
 use Rattle.route.specs.declared.Table.{Table}
 use Rattle.route.specs.Entries.{Entry, isIn, names, adds, deletes}
 use Rattle.route.specs.Updating.{codesAfter, tableAfter}
-use Rattle.route.specs.Parts.{mark, stepTo, step, collect, noChange, settledAt, settled}
+use Rattle.route.specs.Parts.{Change, mark, stepTo, step, collect, noChange, settledAt, settled}
 
 -- a change by its two tables
 abbrev pairs : List ℕ → List ℕ → Change

@@ -2,7 +2,7 @@
 -- Assumes nothing.
 use mathlib.Core.Path.{_≡_, refl, sym, ap, ap₂, _∙_}
 use mathlib.Core.List.{List, [], _∷_}
-use mathlib.Core.Bool.{true, false}
+use mathlib.Core.Bool.{true, false, false≢true}
 use Prim.Native.Nat.{ℕ, zero, suc, zero-le, _+_, _-_, _/_, _%_, _≤_, _<_}
 use native.Mathlib.Numerals.{add-one}
 use native.Mathlib.Decide.{decLe}
@@ -11,10 +11,8 @@ use lib.ListN.{length, getD, take, drop, set, length-drop, drop-of-length-le}
 use lib.Seq.{drop-cons, drop-drop}
 use borrow.Author.Tests.{lt-leb, le-leb, eq-eqb, ne-eqb}
 use Rattle.wordset.specs.Sets.{with}
-use Rattle.route.specs.declared.Change.{Change}
-use Rattle.route.specs.declared.Taken.{Taken}
 use Rattle.route.specs.Entries.{Entry, entry, Parsed, cut, whole, follow, parse, entriesIn}
-use Rattle.route.specs.Parts.{mark, step, collect, noChange, takenOf, collectedBy}
+use Rattle.route.specs.Parts.{Change, Taken, Collected, mark, step, collect, noChange, takenOf, collectedBy, Found}
 
 -- ---- the addresses of an entry, one after another
 
@@ -80,27 +78,28 @@ parse-end (suc f) c = refl
 
 -- ---- what the walk keeps: to go on from here, with the change as it is now, is to read the whole list
 
-pub record Going (xs : List ℕ) (at : ℕ) (c : Change) : Type 0 where
+pub record Going (xs : List ℕ) (start : Change) (at : ℕ) (c : Change) : Type 0 where
   pub within : at ≤ length xs
   pub fuel : ℕ
   pub enough : length xs - at ≤ fuel
-  pub same : collectedBy (parse fuel (drop at xs)) c ≡ collectedBy (entriesIn xs) noChange
+  pub same : collectedBy (parse fuel (drop at xs)) c ≡ collectedBy (entriesIn xs) start
 
 -- what holds after an entry was read
-pub record Stepped (xs : List ℕ) (at : ℕ) (t : Taken) : Type 0 where
-  pub going : Going xs (at + t .size) (t .change)
+pub record Stepped (xs : List ℕ) (start : Change) (at : ℕ) (t : Taken) : Type 0 where
+  pub going : Going xs start (at + t .size) (t .change)
   pub some : 0 < t .size
   pub inside : at + t .size ≤ length xs
 
-pub going-start : (xs : List ℕ) (c : Change) → c ≡ noChange → Going xs 0 c
+pub going-start : (xs : List ℕ) (c : Change) → Going xs c 0 c
 unfolding entriesIn
-going-start xs c e =
-    record { within = zero-le; fuel = length xs; enough = omega arith; same = ap (collectedBy (parse (length xs) xs)) e }
+going-start xs c = record { within = zero-le; fuel = length xs; enough = omega arith; same = refl }
 
-module _ (xs : List ℕ) (at : ℕ) (c : Change) (g : Going xs at c) where
-  pub going-end : length xs ≤ at → record { whole = true; change = c } ≡ collectedBy (entriesIn xs) noChange
-  going-end h =
-      sym (parse-end (g .fuel) c) ∙ ap (λ (l : List ℕ). collectedBy (parse (g .fuel) l) c) (sym (drop-of-length-le xs h)) ∙ g .same
+module _ (xs : List ℕ) (start : Change) (at : ℕ) (c : Change) (g : Going xs start at c) where
+  pub going-end : length xs ≤ at → Found (collectedBy (entriesIn xs) start) true c
+  going-end h = record { told = ap (λ (r : Collected). r .whole) all; gathered = λ e. ap (λ (r : Collected). r .change) all }
+    where
+      all : record { whole = true; change = c } ≡ collectedBy (entriesIn xs) start
+      all = sym (parse-end (g .fuel) c) ∙ ap (λ (l : List ℕ). collectedBy (parse (g .fuel) l) c) (sym (drop-of-length-le xs h)) ∙ g .same
 
   module _ (more : at < length xs) (t : Taken) (e : t ≡ takenOf (drop at xs) c) where
     fuelled : (f : ℕ) → length xs - at ≤ f → (k : ℕ) × (f ≡ suc k)
@@ -121,9 +120,9 @@ module _ (xs : List ℕ) (at : ℕ) (c : Change) (g : Going xs at c) where
     unfolding need takenOf
     was-whole h = e ∙ simp (le-leb _ _ h)
 
-    pub going-cut : t .size ≡ 0 → record { whole = false; change = noChange } ≡ collectedBy (entriesIn xs) noChange
+    was-all : t .size ≡ 0 → record { whole = false; change = noChange } ≡ collectedBy (entriesIn xs) start
     unfolding need
-    going-cut z =
+    was-all z =
         elim (decLe need (length (drop at xs))) [
           | yes h ↦ absurd (omega (arith, ap (λ (r : Taken). r .size) (was-whole h)))
           | no h ↦
@@ -132,7 +131,10 @@ module _ (xs : List ℕ) (at : ℕ) (c : Change) (g : Going xs at c) where
               ∙ ap (λ (f : ℕ). collectedBy (parse f (drop at xs)) c) (sym (k .1)) ∙ g .same
         ]
 
-    pub going-next : (t .size ≡ 0 → ⊥) → Stepped xs at t
+    pub going-cut : (d : Change) → t .size ≡ 0 → Found (collectedBy (entriesIn xs) start) false d
+    going-cut d z = record { told = ap (λ (r : Collected). r .whole) (was-all z); gathered = λ e. absurd (false≢true e) }
+
+    pub going-next : (t .size ≡ 0 → ⊥) → Stepped xs start at t
     unfolding need
     going-next z =
         elim (decLe need (length (drop at xs))) [

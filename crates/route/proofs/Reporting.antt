@@ -12,11 +12,9 @@ use lib.Dec.{eqb}
 use lib.ListN.{length, getD, set, replicate, length-append, List·getD-append}
 use lib.Seq.{append-snoc, set-append-seam, getD-append-seam}
 use borrow.Author.Tests.{ne-eqb, eqb-true, eqb-false}
-use Rattle.route.specs.declared.Report.{Report}
-use Rattle.route.specs.declared.Table.{Table}
 use Rattle.route.specs.Entries.{isIn}
-use Rattle.route.specs.Updating.{those, isLost, lostBetween}
-use Rattle.route.specs.Parts.{reportOf, noted}
+use Rattle.route.specs.Updating.{those}
+use Rattle.route.specs.Parts.{Report, reportOf, noted, NoneFrom}
 
 -- ---- those numbers below n that p picks
 
@@ -135,6 +133,15 @@ noted-next n p r h e = ap (λ (x : Report). noted x n (p n)) e ∙ go (p n) ∙ 
 pub noted-room : (n : ℕ) (p : ℕ → Bool) (r : Report) → n < 256 → r ≡ reportOf (those n p) → r .count < 256
 noted-room n p r h e = omega (arith, ap (λ (x : Report). x .count) e, length-those n p)
 
-pub noted-end : (n : ℕ) (before after : Table) (r : Report) → n ≤ 256 → 256 ≤ n → r ≡ reportOf (those n (isLost before after)) → r ≡ reportOf (lostBetween before after)
-unfolding lostBetween
-noted-end n before after r h g e = e ∙ ap (λ (k : ℕ). reportOf (those k (isLost before after))) (omega arith)
+-- numbers of which none is picked are passed over
+pub those-skip : (p : ℕ → Bool) (from n : ℕ) → NoneFrom from n p → those (from + n) p ≡ those from p
+unfolding those
+those-skip p from zero h =
+    let z : from + 0 ≡ from = omega arith in
+    ap (λ (k : ℕ). those k p) z
+those-skip p from (suc n) h =
+    let s : from + suc n ≡ suc (from + n) = omega arith in
+    ap (λ (k : ℕ). those k p) s
+    ∙ ap (λ (b : Bool). those (from + n) p ++ cond b ((from + n) ∷ []) []) (h n (omega arith))
+    ∙ append-nil (those (from + n) p)
+    ∙ those-skip p from n (λ i l. h i (omega arith))

@@ -1,15 +1,16 @@
 // The table of interrogator codes against ground addresses, and the route lists that change it (document 01, "Interrogators and ground
 // addresses").
 ghost use mathlib.Core.Path.{_≡_};
-ghost use mathlib.Core.Bool.{not, _&&_};
+ghost use mathlib.Core.Bool.{false, not, _&&_};
 ghost use mathlib.Core.List.{[]};
-ghost use Prim.Native.Nat.{_<_};
+ghost use Prim.Native.Nat.{_+_, _<_, _≤_};
 ghost use lib.Dec.{eqb};
+ghost use lib.ListN.{replicate};
 ghost use Rattle.refusal.specs.declared.Refusal.the-variants.{RouteListMalformed};
 ghost use Rattle.refusal.specs.declared.Verdict.the-variants.{Refused as RefusedVerdict};
 ghost use Rattle.route.specs.Entries.{entriesIn};
-ghost use Rattle.route.specs.Updating.{emptyTable, codesOf, countOf, chooseFor, lostBetween, reported, updateOf};
-ghost use Rattle.route.specs.Parts.{mark, takenOf, noChange, collectedBy, settled, reportOf, noted};
+ghost use Rattle.route.specs.Updating.{emptyTable, codesOf, countOf, chooseFor, those, reported, updateOf};
+ghost use Rattle.route.specs.Parts.{mark, change, taken, takenOf, collectedBy, Found, settled, report, reportOf, noted, lostIn, NoneFrom};
 use interrogator::Choice;
 use interrogator::LastUsed;
 use refusal::Refusal;
@@ -30,127 +31,62 @@ pub struct Updated {
     pub lost: [u8; 256],
 }
 
-// The pairs of code and address that a route list adds, and those that it deletes: for each address a set of codes.
-pub struct Change {
-    pub added: [u16; 256],
-    pub deleted: [u16; 256],
-}
-
-// One entry read and joined to a change: the bytes that it takes, 0 where it is cut.
-pub struct Taken {
-    pub size: usize,
-    pub change: Change,
-}
-
-// All entries of a list read: whether the last one is whole, and the change that they ask for.
-pub struct Collected {
-    pub whole: bool,
-    pub change: Change,
-}
-
-// A report that is being gathered.
-pub struct Report {
-    pub count: u16,
-    pub lost: [u8; 256],
-}
-
 // The code joins the set of each address named.
-fn marked(sets: [u16; 256], addresses: &[u8], code: u8) -> [u16; 256]
-    ensures { λ r. ⌜ r ≡ mark code (now (addresses .entry)) sets ⌝ }
+fn mark_all(sets: &mut [u16; 256], addresses: &[u8], code: u8)
+    ensures { λ _. ⌜ now (sets .exit) ≡ mark code (now (addresses .entry)) (now (sets .entry)) ⌝ }
 {
-    let mut next = sets;
     let mut i: usize = 0;
     while i < addresses.len() {
         let a = addresses[i] as usize;
-        next[a] = set16::with(next[a], code);
+        sets[a] = set16::with(sets[a], code);
         i = i + 1;
     }
-    next
 }
 
-// Reads the entry that the rest of a list starts with. All entries are gathered before the table is touched, since every addition is made
-// before any deletion.
-fn take_entry(rest: &[u8], change: Change) -> Taken
-    ensures { λ r. ⌜ r ≡ takenOf (now (rest .entry)) change ⌝ }
+// Reads the entry that the rest of a list starts with, and answers how many bytes it takes, 0 where it is cut. All entries are gathered before
+// the table is touched, since every addition is made before any deletion; the sets are lent, so that no entry costs a copy of them.
+fn take_entry(rest: &[u8], added: &mut [u16; 256], deleted: &mut [u16; 256]) -> usize
+    ensures { λ r. ⌜ taken r (now (added .exit)) (now (deleted .exit)) ≡ takenOf (now (rest .entry)) (change (now (added .entry)) (now (deleted .entry))) ⌝ }
 {
     if rest.len() < 2 {
-        return Taken {
-            size: 0,
-            change: change,
-        };
+        return 0;
     }
     let head = rest[0];
     let size = (head % 8) as usize + 2;
     if rest.len() < size {
-        return Taken {
-            size: 0,
-            change: change,
-        };
+        return 0;
     }
-    let added = change.added;
-    let deleted = change.deleted;
     let code = head / 16;
     if head / 8 % 2 == 1 {
-        let more = marked(added, &rest[1..size], code);
-        Taken {
-            size: size,
-            change: Change {
-                added: more,
-                deleted: deleted,
-            },
-        }
+        mark_all(added, &rest[1..size], code);
+        size
     } else {
-        let more = marked(deleted, &rest[1..size], code);
-        Taken {
-            size: size,
-            change: Change {
-                added: added,
-                deleted: more,
-            },
-        }
+        mark_all(deleted, &rest[1..size], code);
+        size
     }
 }
 
-// The change that an empty list asks for.
-fn no_change() -> Change
-    ensures { λ r. ⌜ r ≡ noChange ⌝ }
+// Gathers the change that a route list asks for: each entry is read as the rest of the list from where the last one ended. Answers whether the
+// last entry is whole.
+fn collect_list(list: &[u8], added: &mut [u16; 256], deleted: &mut [u16; 256]) -> bool
+    ensures { λ r. ⌜ Found (collectedBy (entriesIn (now (list .entry))) (change (now (added .entry)) (now (deleted .entry)))) r
+        (change (now (added .exit)) (now (deleted .exit))) ⌝ }
 {
-    Change {
-        added: [0u16; 256],
-        deleted: [0u16; 256],
-    }
-}
-
-// The change that a route list asks for: each entry is read as the rest of the list from where the last one ended.
-fn collect_list(list: &[u8]) -> Collected
-    ensures { λ r. ⌜ r ≡ collectedBy (entriesIn (now (list .entry))) noChange ⌝ }
-{
-    let mut change = no_change();
     let mut at: usize = 0;
     while at < list.len() {
-        let taken = take_entry(&list[at..], change);
-        let size = taken.size;
+        let size = take_entry(&list[at..], added, deleted);
         if size == 0 {
-            return Collected {
-                whole: false,
-                change: no_change(),
-            };
+            return false;
         }
-        change = taken.change;
         at = at + size;
     }
-    Collected {
-        whole: true,
-        change: change,
-    }
+    true
 }
 
 // The table after a change: all additions, then all deletions.
-fn settle(codes: [u16; 256], change: Change) -> [u16; 256]
-    ensures { λ r. ⌜ r ≡ settled codes change ⌝ }
+fn settle(codes: &[u16; 256], added: &[u16; 256], deleted: &[u16; 256]) -> [u16; 256]
+    ensures { λ r. ⌜ r ≡ settled (now (codes .entry)) (change (now (added .entry)) (now (deleted .entry))) ⌝ }
 {
-    let added = change.added;
-    let deleted = change.deleted;
     let mut next = [0u16; 256];
     let mut a: usize = 0;
     while a < 256 {
@@ -167,45 +103,86 @@ fn is_lost(before: u16, after: u16) -> bool
     if before == 0 { false } else { after == 0 }
 }
 
-// The report, with the address noted if it is lost.
-fn note(report: Report, a: usize, lost: bool) -> Report
-    requires { ⌜ (a < 256) × (report .count < 256) ⌝ }
-    ensures { λ r. ⌜ r ≡ noted report a lost ⌝ }
+// Whether any of the 16 addresses from one on is lost. Few are, so most of a table is passed over by this test.
+fn any_lost(before: &[u16; 256], after: &[u16; 256], from: usize) -> bool
+    requires { ⌜ from + 16 ≤ 256 ⌝ }
+    ensures { λ r. ⌜ (r ≡ false → NoneFrom from 16 (lostIn (now (before .entry)) (now (after .entry)))) ⌝ }
 {
-    if lost {
-        let at = report.count as usize;
-        let mut next = report;
-        next.lost[at] = a as u8;
-        next.count = report.count + 1;
-        next
+    let mut any = false;
+    let mut i: usize = 0;
+    while i < 16 {
+        let a = from + i;
+        any = any | is_lost(before[a], after[a]);
+        i = i + 1;
+    }
+    any
+}
+
+// Notes the address if it is lost, and answers the count of those noted.
+fn note(lost: &mut [u8; 256], count: u16, a: usize, gone: bool) -> u16
+    requires { ⌜ (a < 256) × (count < 256) ⌝ }
+    ensures { λ r. ⌜ report r (now (lost .exit)) ≡ noted (report count (now (lost .entry))) a gone ⌝ }
+{
+    if gone {
+        let at = count as usize;
+        lost[at] = a as u8;
+        count + 1
     } else {
-        report
+        count
     }
 }
 
-// A report of nothing.
-fn none_lost() -> Report
-    ensures { λ r. ⌜ r ≡ reportOf [] ⌝ }
+// Notes those of the 16 addresses from one on that are lost.
+fn note_each(
+    before: &[u16; 256],
+    after: &[u16; 256],
+    from: usize,
+    lost: &mut [u8; 256],
+    count: u16,
+) -> u16
+    requires { ⌜ (from + 16 ≤ 256) × (report count (now lost) ≡ reportOf (those from (lostIn (now before) (now after)))) ⌝ }
+    ensures { λ r. ⌜ report r (now (lost .exit)) ≡ reportOf (those (from + 16) (lostIn (now (before .entry)) (now (after .entry)))) ⌝ }
 {
-    Report {
-        count: 0,
-        lost: [0u8; 256],
+    let mut n = count;
+    let mut i: usize = 0;
+    while i < 16 {
+        let a = from + i;
+        n = note(lost, n, a, is_lost(before[a], after[a]));
+        i = i + 1;
+    }
+    n
+}
+
+// The same, where 16 addresses of which none is lost cost one test.
+fn note_any(
+    before: &[u16; 256],
+    after: &[u16; 256],
+    from: usize,
+    lost: &mut [u8; 256],
+    count: u16,
+) -> u16
+    requires { ⌜ (from + 16 ≤ 256) × (report count (now lost) ≡ reportOf (those from (lostIn (now before) (now after)))) ⌝ }
+    ensures { λ r. ⌜ report r (now (lost .exit)) ≡ reportOf (those (from + 16) (lostIn (now (before .entry)) (now (after .entry)))) ⌝ }
+{
+    if any_lost(before, after, from) {
+        note_each(before, after, from, lost, count)
+    } else {
+        count
     }
 }
 
-// The addresses that lost their last code, rising.
-fn lost_between(before: Table, after: Table) -> Report
-    ensures { λ r. ⌜ r ≡ reportOf (lostBetween before after) ⌝ }
+// The addresses that lost their last code, rising, written into 256 zeros; answers the count of them.
+fn lost_between(before: &[u16; 256], after: &[u16; 256], lost: &mut [u8; 256]) -> u16
+    requires { ⌜ now lost ≡ replicate 256 0 ⌝ }
+    ensures { λ r. ⌜ report r (now (lost .exit)) ≡ reportOf (those 256 (lostIn (now (before .entry)) (now (after .entry)))) ⌝ }
 {
-    let codes = before.codes;
-    let left = after.codes;
-    let mut report = none_lost();
-    let mut a: usize = 0;
-    while a < 256 {
-        report = note(report, a, is_lost(codes[a], left[a]));
-        a = a + 1;
+    let mut count: u16 = 0;
+    let mut block: usize = 0;
+    while block < 16 {
+        count = note_any(before, after, block * 16, lost, count);
+        block = block + 1;
     }
-    report
+    count
 }
 
 // The answer to a list that is refused: the table as it was given.
@@ -257,18 +234,17 @@ impl Table {
         if 255 < list.len() {
             return refuse(self);
         }
-        let found = collect_list(list);
-        if found.whole {
+        let mut added = [0u16; 256];
+        let mut deleted = [0u16; 256];
+        if collect_list(list, &mut added, &mut deleted) {
             let before = self.codes;
-            let change = found.change;
-            let codes = settle(before, change);
-            let after = Table { codes: codes };
-            let report = lost_between(self, after);
-            let lost = report.lost;
+            let codes = settle(&before, &added, &deleted);
+            let mut lost = [0u8; 256];
+            let count = lost_between(&before, &codes, &mut lost);
             Updated {
                 verdict: Verdict::Done,
-                table: after,
-                count: report.count,
+                table: Table { codes: codes },
+                count: count,
                 lost: lost,
             }
         } else {

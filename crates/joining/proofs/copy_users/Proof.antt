@@ -10,7 +10,7 @@ use Rattle.lists.specs.Lists.{over}
 use Rattle.lists.specs.Frames.{partsOf}
 use Rattle.joining.specs.Joining.{messageIn}
 use Rattle.joining.proofs.Places.{frame-in}
-use Rattle.joining.proofs.Copying.{Copying, starts, asks, turns, ends}
+use Rattle.joining.proofs.Copying.{Copying, starts, is-data, asks, turns, ends}
 use Rattle.joining.proofs.copy_users.Statement.{statement}
 use Rattle.joining.proofs.copy_users.Tie as tie
 
@@ -21,7 +21,7 @@ abbrev μ-loop : tie.MeasureT-loop
 μ-loop form lengths frames out₀ at₀ p₀ i₀ out at p i = length lengths - i
 
 loop-holds : tie.Need-loop-holds Inv-loop μ-loop
-loop-holds c = starts (c .before .before .before .args .form) (c .before .before .before .args .lengths .now) (c .before .before .before .args .frames .now) (c .before .before .before .args .out .now) (c .before .before .before .pre .0)
+loop-holds c = starts (c .before .before .before .args .form) (c .before .before .before .args .lengths .now) (c .before .before .before .args .frames .now) (c .before .before .before .args .out .now) (c .before .before .before .pre .0) (c .before .before .before .pre .2)
 
 -- the frame stands in the buffer
 inside : (c : tie.After-shared-slice-known3 Inv-loop μ-loop) → c .before .before .loop .p + getD (c .before .before .before .before .before .before .args .lengths .now) (c .before .before .loop .i) 0 ≤ length (c .before .before .before .before .before .before .args .frames .now)
@@ -31,7 +31,10 @@ copy-user-requires : tie.Need-copy-user-requires Inv-loop μ-loop
 copy-user-requires c κs =
     let l = c .before .before .before .before .loop in
     let a = c .before .before .before .before .before .before .before .before .args in
-    asks (a .form) (a .lengths .now) (a .frames .now) (a .out .now) (l .out) (l .at) (l .p) (l .i) (l .inv) (c .before .before .before .loop-test .taken) (c .before .before .before .before .before .before .before .before .pre .1) .0
+    let t = c .before .before .before .loop-test .taken in (
+      is-data (a .form) (a .lengths .now) (a .frames .now) (a .out .now) (l .out) (l .at) (l .p) (l .i) (l .inv) t,
+      asks (a .form) (a .lengths .now) (a .frames .now) (a .out .now) (l .out) (l .at) (l .p) (l .i) (l .inv) t (c .before .before .before .before .before .before .before .before .pre .1) .0,
+    )
 
 add-at : tie.Need-add-at Inv-loop μ-loop
 add-at c =

@@ -1,6 +1,7 @@
 -- `joining::join_frames` meets its contract: where every check passed the message is copied, else nothing is.
 -- Assumes nothing.
 use mathlib.Core.Path.{_≡_, sym, ap, _∙_}
+use mathlib.Core.Bool.{true}
 use mathlib.Core.List.{List}
 use Prim.Native.Nat.{ℕ, _≤_}
 use lib.ListN.{length}
@@ -11,9 +12,12 @@ use Rattle.lists.specs.Lists.{over}
 use Rattle.lists.specs.Frames.{partsOf, sum}
 use Rattle.form.specs.declared.Form.{Form}
 use Rattle.codec.specs.Writing.{outputBy}
+use Rattle.joining.specs.declared.Before.the-variants.{Nothing}
 use Rattle.joining.specs.declared.Joined.the-variants.{Bytes, Refused as NotJoined}
 use Rattle.joining.specs.Joining.{messageIn, joinVerdict, joinOf, joinOutput}
+use Rattle.joining.specs.Parts.{allData}
 use Rattle.joining.proofs.Answers.{by-bytes, by-refused, join-done}
+use Rattle.joining.proofs.Users.{all-data}
 use Rattle.joining.proofs.join_frames.Statement.{statement}
 use Rattle.joining.proofs.join_frames.Tie as tie
 
@@ -27,14 +31,14 @@ module _ (form : Form) (ls bytes out : List ℕ) where
 
   -- joined: what copying requires, and the output
   joins : (n : ℕ) → joinOf form ls bytes (length out) ≡ Bytes n
-      → ((sum ls ≡ length bytes) × (length (messageIn form (partsOf ls bytes)) ≤ length out))
+      → ((sum ls ≡ length bytes) × (length (messageIn form (partsOf ls bytes)) ≤ length out) × (allData form (partsOf ls bytes) ≡ true))
       × (over (messageIn form (partsOf ls bytes)) out ≡ joinOutput form ls bytes out)
   unfolding joinOf joinOutput
   joins n e =
       let m = messageIn form (partsOf ls bytes) in
       let done = by-bytes (joinVerdict form ls bytes (length out)) (length m) n e in
       let d = join-done form ls bytes (length out) done in
-      ((d .sums, d .fits-room), sym (ap (λ (v : Verdict). outputBy v m out) done))
+      ((d .sums, d .fits-room, all-data form Nothing (partsOf ls bytes) (d .run)), sym (ap (λ (v : Verdict). outputBy v m out) done))
 
 copy-users-requires : tie.Need-copy-users-requires
 copy-users-requires c κs =

@@ -1,40 +1,36 @@
--- `route::lost_between` meets its contract. The loop's invariant: the report so far is that of the addresses passed.
+-- `route::lost_between` meets its contract. The loop's invariant: the report so far is that of the blocks passed.
 -- Assumes nothing.
 use mathlib.Core.Path.{_≡_, ap, _∙_}
-use Prim.Native.Nat.{_-_, _≤_}
+use Prim.Native.Nat.{ℕ, _+_, _-_, _*_, _≤_}
 use native.Mathlib.Omega.{arith}
-use borrow.Author.Needs.{needs}
-use Rattle.route.specs.Updating.{those, isLost}
-use Rattle.route.specs.Parts.{reportOf, noted}
-use Rattle.route.proofs.Reporting.{noted-next, noted-room, noted-end}
+use Rattle.route.specs.Updating.{those}
+use Rattle.route.specs.Parts.{report, reportOf, lostIn}
 use Rattle.route.proofs.lost_between.Statement.{statement}
 use Rattle.route.proofs.lost_between.Tie as tie
 
 abbrev Inv-loop : tie.InvT-loop
-Inv-loop codes left report₀ a₀ report a = (a ≤ 256) × (report ≡ reportOf (those a (isLost (record { codes = codes }) (record { codes = left }))))
+Inv-loop before after lost₀ count₀ block₀ lost count block = (block ≤ 16) × (report count lost ≡ reportOf (those (block * 16) (lostIn before after)))
 
 abbrev μ-loop : tie.MeasureT-loop
-μ-loop codes left report₀ a₀ report a = 256 - a
+μ-loop before after lost₀ count₀ block₀ lost count block = 16 - block
 
 loop-holds : tie.Need-loop-holds Inv-loop μ-loop
 unfolding those
-loop-holds c = search needs
-
-note-requires : tie.Need-note-requires Inv-loop μ-loop
-note-requires c κs =
-    let l = c .before .before .loop in
-    (c .before .loop-test .taken, noted-room (l .a) _ (l .report) (c .before .loop-test .taken) (l .inv .1))
+loop-holds c = (omega arith, ap (report 0) (c .pre))
 
 loop-again : tie.Need-loop-again Inv-loop μ-loop
 loop-again c =
-    let i = c .before .before in
-    let l = i .before .loop in
-    (omega arith, c .note .ensures ∙ ap (noted (l .report) (l .a)) (c .before .is-lost .ensures) ∙ noted-next (l .a) _ (l .report) (i .loop-test .taken) (l .inv .1))
+    let l = c .before .before .before .loop in
+    let a = c .before .before .before .before .args in
+    let s : l .block * 16 + 16 ≡ (l .block + 1) * 16 = omega arith in
+    (omega arith, c .note-any .ensures ∙ ap (λ (k : ℕ). reportOf (those k (lostIn (a .before .now) (a .after .now)))) s)
 
 returns : tie.Need-returns Inv-loop μ-loop
 returns c =
     let l = c .before .loop in
-    noted-end (l .a) _ _ (l .report) (l .inv .0) (c .loop-test .left) (l .inv .1)
+    let a = c .before .before .args in
+    let all : l .block * 16 ≡ 256 = omega arith in
+    l .inv .1 ∙ ap (λ (k : ℕ). reportOf (those k (lostIn (a .before .now) (a .after .now)))) all
 
 pub lost-between-spec : {M : Type 1} → statement M
 lost-between-spec =
@@ -42,14 +38,9 @@ lost-between-spec =
     (tie.spec
     Inv-loop
     μ-loop
-    (λ c κs. search needs)
     loop-holds
-    (λ c. search needs)
-    (λ c. search needs)
-    (λ c. search needs)
-    (λ c. search needs)
-    (λ c κs. search needs)
-    note-requires
+    (λ c. omega arith)
+    (λ c κs. (omega arith, c .before .before .loop .inv .1))
     (λ c. omega arith)
     (λ c. omega arith)
     loop-again

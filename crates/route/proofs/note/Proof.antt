@@ -7,13 +7,11 @@ use Rattle.route.proofs.note.Tie as tie
 
 returns : tie.Need-returns
 unfolding noted
-returns c = simp (c .before .before .if1 .taken)
+returns c = simp (c .if1 .taken)
 
 returns-2 : tie.Need-returns-2
 unfolding noted
 returns-2 c = simp (c .if1 .left)
 
 pub note-spec : {M : Type 1} → statement M
-note-spec =
-    tie.close
-    (tie.spec (λ c. search needs) (λ c. search needs) (λ c. search needs) (λ c. search needs) returns returns-2)
+note-spec = tie.close (tie.spec (λ c. search needs) (λ c. search needs) (λ c. search needs) returns returns-2)

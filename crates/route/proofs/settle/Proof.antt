@@ -8,14 +8,13 @@ use borrow.Author.Needs.{needs}
 use lib.ListN.{getD, set}
 use Rattle.lists.proofs.Lists.{filled, fill-start, fill-next, fill-end}
 use Rattle.wordset.specs.Sets.{union, difference}
-use Rattle.route.specs.declared.Change.{Change}
-use Rattle.route.specs.Parts.{settledAt, settled}
+use Rattle.route.specs.Parts.{Change, change, settledAt, settled}
 use Rattle.route.proofs.settle.Statement.{statement}
 use Rattle.route.proofs.settle.Tie as tie
 
 abbrev Inv-loop : tie.InvT-loop
 Inv-loop codes added deleted next₀ a₀ next a =
-    (a ≤ 256) × (next ≡ filled 256 (settledAt codes (record { added = added; deleted = deleted })) a)
+    (a ≤ 256) × (next ≡ filled 256 (settledAt codes (change added deleted)) a)
 
 abbrev μ-loop : tie.MeasureT-loop
 μ-loop codes added deleted next₀ a₀ next a = 256 - a
@@ -32,9 +31,9 @@ loop-holds c = (omega arith, fill-start 256 _)
 
 loop-again : tie.Need-loop-again Inv-loop μ-loop
 loop-again c =
-    let l = c .before .before .before in
-    let s = l .before .before .before in
-    (omega arith, next-set (s .args .t1) (s .args .change) _ (l .loop .a) _ _ (l .loop .inv .1) (c .before .union .ensures) (c .difference .ensures))
+    let l = c .before .before .before .before .before .before .loop in
+    let a = c .before .before .before .before .before .before .before .args in
+    (omega arith, next-set (a .codes .now) (change (a .added .now) (a .deleted .now)) _ (l .a) _ _ (l .inv .1) (c .before .before .union .ensures) (c .difference .ensures))
 
 returns : tie.Need-returns Inv-loop μ-loop
 unfolding settled

@@ -2,25 +2,26 @@
 -- Assumes nothing.
 use native.Mathlib.Omega.{arith}
 use borrow.Author.Needs.{needs}
+use Rattle.route.specs.Parts.{change}
 use Rattle.route.proofs.Reading.{taken-cut, taken-adds, taken-deletes}
 use Rattle.route.proofs.take_entry.Statement.{statement}
 use Rattle.route.proofs.take_entry.Tie as tie
 
 returns : tie.Need-returns
-returns c = taken-cut _ _ (omega arith)
+returns c = taken-cut (c .before .before .args .rest .now) (change (c .before .before .args .added .now) (c .before .before .args .deleted .now)) (omega arith)
 
 returns-2 : tie.Need-returns-2
-returns-2 c = taken-cut _ _ (c .if2 .taken)
+returns-2 c = taken-cut (c .before .before .before .before .args .rest .now) (change (c .before .before .before .before .args .added .now) (c .before .before .before .before .args .deleted .now)) (c .if2 .taken)
 
 returns-3 : tie.Need-returns-3
 returns-3 c =
-    let b = c .before .before in
-    taken-adds _ _ (b .before .before .before .if2 .left) _ (b .if3 .taken) (c .marked .ensures)
+    let a = c .before .before .before .before .before .before .before .before .args in
+    taken-adds (a .rest .now) (change (a .added .now) (a .deleted .now)) (c .before .before .before .before .if2 .left) _ (c .before .before .before .if3 .taken) (c .mark-all .ensures)
 
 returns-4 : tie.Need-returns-4
 returns-4 c =
-    let b = c .before .before in
-    taken-deletes _ _ (b .before .before .before .if2 .left) _ (b .if3 .left) (c .marked2 .ensures)
+    let a = c .before .before .before .before .before .before .before .before .args in
+    taken-deletes (a .rest .now) (change (a .added .now) (a .deleted .now)) (c .before .before .before .before .if2 .left) _ (c .before .before .before .if3 .left) (c .mark-all2 .ensures)
 
 pub take-entry-spec : {M : Type 1} → statement M
 take-entry-spec =

@@ -11,14 +11,10 @@ returns c = c .refuse .ensures ∙ sym (update-long _ _ (c .before .if1 .taken))
 
 returns-2 : tie.Need-returns-2
 returns-2 c =
-    let s = c .before .before in
-    let b = s .before .before .before in
-    update-done _ _ _ (b .before .before .if1 .left) (b .before .collect-list .ensures) (b .if2 .taken) _ (s .settle .ensures) _ (c .before .lost-between .ensures)
+    update-done _ _ _ _ (c .before .before .before .before .before .before .before .before .before .before .before .before .before .if1 .left) (c .before .before .before .before .before .before .before .before .before .before .collect-list .ensures) (c .before .before .before .before .before .before .before .before .before .if2 .taken) _ (c .before .before .before .before .settle .ensures) _ _ (c .lost-between .ensures)
 
 returns-3 : tie.Need-returns-3
-returns-3 c =
-    let b = c .before .before in
-    c .refuse2 .ensures ∙ sym (update-cut _ _ _ (b .before .if1 .left) (b .collect-list .ensures) (c .before .if2 .left))
+returns-3 c = c .refuse2 .ensures ∙ sym (update-cut _ _ _ _ (c .before .before .before .before .before .if1 .left) (c .before .before .collect-list .ensures) (c .before .if2 .left))
 
 pub update-spec : {M : Type 1} → statement M
 update-spec =
