@@ -7,7 +7,7 @@ use native.Mathlib.Nat.{add-zero}
 use native.Mathlib.Numerals.{add-one}
 use native.Mathlib.Omega.{arith}
 use lib.ListN.{length, getD, set, take, drop, length-set}
-use lib.Seq.{take-suc, take-add, take-at, drop-at, drop-cons, drop-drop, getD-drop, set-at, append-snoc, paste, paste-zero, paste-suc, take-paste, drop-paste}
+use lib.Seq.{take-all, take-append-add, drop-append-add, take-suc, take-add, take-at, drop-at, drop-cons, drop-drop, getD-drop, set-at, append-snoc, paste, paste-zero, paste-suc, take-paste, drop-paste}
 use Rattle.little.specs.Little.{littleOf, littleBytes, littleList, listBytes}
 use Rattle.little.proofs.Little.{length-bytes}
 
@@ -115,3 +115,28 @@ module _ (out₀ : List ℕ) (at k n : ℕ) (room : at + k ≤ length out₀) wh
                 ∙ paste-suc out₀ at (littleBytes k n) i 0 (omega arith) (omega (arith, length-bytes k n))
                 ∙ ap (paste out₀ at (littleBytes k n)) (sym (add-one i));
           }
+
+-- ---- one number of a list written anew
+
+-- what is pasted behind p leaves p
+pub paste-behind : (p l s : List ℕ) (j n : ℕ) → paste (p ++ l) (length p + j) s n ≡ p ++ paste l j s n
+paste-behind p l s j n =
+    let e : length p + j + n ≡ length p + (j + n) = omega arith in
+    ap₂ (λ (x y : List ℕ). x ++ take n s ++ y) (take-append-add p l j) (ap (λ (k : ℕ). drop k (p ++ l)) e ∙ drop-append-add p l (j + n))
+    ∙ ap (λ (x : List ℕ). x ++ drop (j + n) l) (append-assoc p (take j l) (take n s))
+    ∙ append-assoc p (take j l ++ take n s) (drop (j + n) l)
+
+pub paste-number : (k : ℕ) (xs : List ℕ) (i x : ℕ) → i < length xs → paste (listBytes k xs) (i * k) (littleBytes k x) k ≡ listBytes k (set xs i x)
+unfolding listBytes
+paste-number k [] i x h = absurd (omega arith)
+paste-number k (y ∷ ys) zero x h =
+    let z : 0 * k ≡ 0 = omega arith in
+    let w : 0 + k ≡ k = omega arith in
+    ap (λ (j : ℕ). paste (littleBytes k y ++ listBytes k ys) j (littleBytes k x) k) z
+    ∙ ap₂ (λ (u v : List ℕ). u ++ v) (take-all k (littleBytes k x) (omega (arith, length-bytes k x)))
+    (ap (λ (j : ℕ). drop j (littleBytes k y ++ listBytes k ys)) w ∙ drop-at (littleBytes k y) (listBytes k ys) k (length-bytes k y))
+paste-number k (y ∷ ys) (suc i) x h =
+    let e : suc i * k ≡ length (littleBytes k y) + i * k = omega (arith, length-bytes k y) in
+    ap (λ (j : ℕ). paste (littleBytes k y ++ listBytes k ys) j (littleBytes k x) k) e
+    ∙ paste-behind (littleBytes k y) (listBytes k ys) (littleBytes k x) (i * k) k
+    ∙ ap (λ (l : List ℕ). littleBytes k y ++ l) (paste-number k ys i x (omega arith))

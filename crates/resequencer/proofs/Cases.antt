@@ -1,13 +1,10 @@
 -- What an arrival and a clock end answer, case by case: the premises are the tests.
 -- Assumes nothing.
-use mathlib.Core.Path.{_≡_, ap, ap₂, _∙_}
+use mathlib.Core.Path.{_≡_, ap}
 use mathlib.Core.Bool.{true, false}
-use mathlib.Core.List.{List, _++_}
 use mathlib.Core.Logic.{_≢_}
-use Prim.Native.Nat.{ℕ, _+_, _≤_, _<_}
-use native.Mathlib.Nat.{add-zero}
+use Prim.Native.Nat.{ℕ, _≤_, _<_}
 use native.Mathlib.Omega.{arith}
-use lib.ListN.{length}
 use borrow.Author.Tests.{ltb-true, lt-ltb, le-ltb, eq-eqb, ne-eqb}
 use Rattle.refusal.specs.declared.Refusal.{Refusal}
 use Rattle.refusal.specs.declared.Verdict.{Verdict}
@@ -15,32 +12,11 @@ use Rattle.refusal.specs.declared.Verdict.the-variants.{Done, Refused}
 use Rattle.refusal.proofs.Checks.{check-done}
 use Rattle.sequence.specs.Numbers.{inField}
 use Rattle.resequencer.specs.declared.Resequencer.{Resequencer}
-use Rattle.resequencer.specs.declared.Outcome.the-variants.{Held, HandedOn, Old, Duplicate, Refused as NotTaken}
-use Rattle.resequencer.specs.declared.Answer.{Answer}
+use Rattle.resequencer.specs.declared.Outcome.the-variants.{Held, Old, Duplicate, Refused as NotTaken}
 use Rattle.resequencer.specs.State.{isHeld, hasClock, ahead, goodOrder}
-use Rattle.resequencer.specs.Events.{plain, places, handOn, advance, heldTickets, hold, runAfterNesn, handOnRun, takeArrival, arriveVerdict, arriveBy, arriveOf, passedByClock, takeClockEnd, clockEndVerdict, clockEndBy, clockEndOf}
-use Rattle.resequencer.specs.Parts.{arrivedTickets}
-
--- ---- a hand-on
-
-pub handed : (xs : List ℕ) (count : ℕ) (out : List ℕ) (next after : Resequencer) → count ≡ length xs → out ≡ places xs → next ≡ after
-    → _≡_ {A = Answer} (record { outcome = HandedOn; count = count; tickets = out; next = next }) (handOn xs after)
-unfolding handOn
-handed xs count out next after c o n =
-    ap₂ (λ (x : ℕ) (l : List ℕ). answer x l next) c o ∙ ap (answer (length xs) (places xs)) n
-  where
-    answer : ℕ → List ℕ → Resequencer → Answer
-    answer x l r = record { outcome = HandedOn; count = x; tickets = l; next = r }
+use Rattle.resequencer.specs.Events.{plain, hold, handOnRun, takeArrival, arriveVerdict, arriveBy, arriveOf, takeClockEnd, clockEndVerdict, clockEndBy, clockEndOf}
 
 module _ (s : Resequencer) where
-  pub handed-run : (ticket n : ℕ) → n ≡ runAfterNesn s → handOn (arrivedTickets 1 ticket ++ heldTickets s 1 n) (advance s (n + 1)) ≡ handOnRun s ticket
-  unfolding handOnRun
-  handed-run ticket n e = ap (λ (m : ℕ). handOn (arrivedTickets 1 ticket ++ heldTickets s 1 m) (advance s (m + 1))) e
-
-  pub handed-by-clock : (n m : ℕ) → m ≡ passedByClock s n → handOn (arrivedTickets 0 0 ++ heldTickets s 0 m) (advance s (m + 0)) ≡ takeClockEnd s n
-  unfolding takeClockEnd
-  handed-by-clock n m e = ap₂ (λ (x y : ℕ). handOn (heldTickets s 0 x) (advance s y)) e (add-zero m ∙ e)
-
   module _ (n ticket : ℕ) where
     -- ---- an arrival
 

@@ -11,18 +11,14 @@ use lib.ListN.{length, getD, set, replicate, length-append}
 use lib.Seq.{set-at}
 use Rattle.wordset.specs.Sets.{member}
 use Rattle.resequencer.specs.declared.Resequencer.{Resequencer}
-use Rattle.resequencer.specs.State.{isHeld, ticketOf, numberAt}
+use Rattle.resequencer.specs.State.{numberAt}
 use Rattle.resequencer.specs.Events.{places, heldTickets}
-use Rattle.resequencer.specs.Parts.{arrivedTickets}
+use Rattle.resequencer.specs.Parts.{arrivedTickets, ticketsFrom}
 
 -- ---- the tickets of those numbers that are held, among the m from a start on, whatever the state
 
 abbrev ticketIf : ℕ → List ℕ → ℕ → List ℕ
 ticketIf held tickets n = cond (member held n) (getD tickets n 0 ∷ []) []
-
-unfoldable pub ticketsFrom : ℕ → List ℕ → ℕ → ℕ → List ℕ
-ticketsFrom held tickets start zero = []
-ticketsFrom held tickets start (suc m) = ticketIf held tickets (start % 64) ++ ticketsFrom held tickets (suc start) m
 
 pub held-from : (s : Resequencer) (d m : ℕ) → ticketsFrom (s .held) (s .tickets) (s .nesn .0 + d) m ≡ heldTickets s d m
 unfolding ticketsFrom heldTickets
@@ -31,16 +27,6 @@ held-from s d (suc m) =
     let e : suc (s .nesn .0 + d) ≡ s .nesn .0 + suc d = omega arith in
     ap (λ (l : List ℕ). ticketIf (s .held) (s .tickets) (numberAt s d) ++ l)
     (ap (λ (n : ℕ). ticketsFrom (s .held) (s .tickets) n m) e ∙ held-from s (suc d) m)
-
--- at most one for each number
-pub held-length : (s : Resequencer) (d m : ℕ) → length (heldTickets s d m) ≤ m
-unfolding heldTickets
-held-length s d zero = omega arith
-held-length s d (suc m) = go (isHeld s (numberAt s d)) (held-length s (suc d) m)
-  where
-    go : (b : Bool) → length (heldTickets s (suc d) m) ≤ m → length (cond b (ticketOf s (numberAt s d) ∷ []) [] ++ heldTickets s (suc d) m) ≤ suc m
-    go true h = omega arith
-    go false h = omega arith
 
 module _ (held : ℕ) (tickets : List ℕ) where
   one-more : (start m : ℕ) → ticketsFrom held tickets start (suc m) ≡ ticketsFrom held tickets start m ++ ticketIf held tickets ((start + m) % 64)
@@ -115,9 +101,8 @@ gathered-not held tickets xs start i count count′ out out′ r g m t p q =
     let u = turned-not held tickets xs start i (sym m ∙ t) in
     record { counted = p ∙ g .counted ∙ ap length (sym u); placed = q ∙ g .placed ∙ ap places (sym u) }
 
-pub gathered-last : (s : Resequencer) (xs : List ℕ) (d i m count : ℕ) (out : List ℕ) → i ≡ m → Gathered (s .held) (s .tickets) xs (s .nesn .0 + d) i count out
-    → (count ≡ length (xs ++ heldTickets s d m)) × (out ≡ places (xs ++ heldTickets s d m))
-gathered-last s xs d i m count out e g =
-    let u : xs ++ ticketsFrom (s .held) (s .tickets) (s .nesn .0 + d) i ≡ xs ++ heldTickets s d m =
-    ap (λ (n : ℕ). xs ++ ticketsFrom (s .held) (s .tickets) (s .nesn .0 + d) n) e ∙ ap (λ (l : List ℕ). xs ++ l) (held-from s d m) in
+pub gathered-end : (held : ℕ) (tickets xs : List ℕ) (start i m count : ℕ) (out : List ℕ) → i ≡ m → Gathered held tickets xs start i count out
+    → (count ≡ length (xs ++ ticketsFrom held tickets start m)) × (out ≡ places (xs ++ ticketsFrom held tickets start m))
+gathered-end held tickets xs start i m count out e g =
+    let u : xs ++ ticketsFrom held tickets start i ≡ xs ++ ticketsFrom held tickets start m = ap (λ (n : ℕ). xs ++ ticketsFrom held tickets start n) e in
     (g .counted ∙ ap length u, g .placed ∙ ap places u)

@@ -4,6 +4,7 @@ pub mod Bounds
 pub mod Cases
 pub mod Passing
 pub mod Handing
+pub mod Steps
 pub mod Stray
 pub mod Deciding
 pub mod Refusing

@@ -36,15 +36,19 @@ gathered held tickets n stray = go (member held n)
     go true = refl
     go false = or-none stray (getD tickets n 0)
 
+-- a turn of a loop over all
+pub gather-next : (held : ℕ) (tickets : List ℕ) (n stray r : ℕ) → eqb stray 0 ≡ every n (ticketFits held tickets) → r ≡ gatherStray stray (member held n) (getD tickets n 0)
+    → eqb r 0 ≡ every (suc n) (ticketFits held tickets)
+unfolding every
+gather-next held tickets n stray r inv q =
+    ap (λ (x : ℕ). eqb x 0) q ∙ gathered held tickets n stray ∙ ap (λ (b : Bool). ticketFits held tickets n && b) inv
+
 -- a turn of the loop over eight
 pub gather-turn : (held : ℕ) (tickets : List ℕ) (p j ones eight r : ℕ) → j < 8 → eight ≡ held / 2 ^ p % 256 → eqb ones 0 ≡ every (p + j) (ticketFits held tickets)
     → r ≡ gatherStray ones (member eight j) (getD tickets (p + j) 0) → eqb r 0 ≡ every (p + (j + 1)) (ticketFits held tickets)
-unfolding every
 gather-turn held tickets p j ones eight r h e inv q =
-    let n : p + (j + 1) ≡ suc (p + j) = omega arith in
+    let n : suc (p + j) ≡ p + (j + 1) = omega arith in
     let m : member eight j ≡ member held (p + j) =
     ap (λ (w : ℕ). member w j) e ∙ same-bit (held / 2 ^ p % 2 ^ 8) held j (p + j) (bit-mod (held / 2 ^ p) 8 j h ∙ bit-shr held p j) in
-    ap (λ (x : ℕ). eqb x 0) (q ∙ ap (λ (b : Bool). gatherStray ones b (getD tickets (p + j) 0)) m)
-    ∙ gathered held tickets (p + j) ones
-    ∙ ap (λ (b : Bool). ticketFits held tickets (p + j) && b) inv
-    ∙ ap (λ (x : ℕ). every x (ticketFits held tickets)) (sym n)
+    gather-next held tickets (p + j) ones r inv (q ∙ ap (λ (b : Bool). gatherStray ones b (getD tickets (p + j) 0)) m)
+    ∙ ap (λ (x : ℕ). every x (ticketFits held tickets)) n

@@ -2,4 +2,5 @@
 pub mod State
 pub mod Events
 pub mod Parts
+pub mod Numbers
 pub mod Refusing

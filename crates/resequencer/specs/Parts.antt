@@ -2,7 +2,7 @@
 -- `goodOrder`, `advance` and `heldTickets`.
 -- Assumes nothing.
 use mathlib.Core.Bool.{Bool, not, cond, _&&_}
-use mathlib.Core.List.{List, [], _∷_}
+use mathlib.Core.List.{List, [], _∷_, _++_}
 use Prim.Native.Nat.{ℕ, zero, suc, _+_, _*_, _/_, _%_, _^_}
 use lib.Bits.{bitAnd, bitOr}
 use lib.Dec.{leb, ltb, eqb}
@@ -50,3 +50,8 @@ hsnrLeft held hsnr = cond (eqb held 0) (link 0) hsnr
 abbrev pub arrivedTickets : ℕ → ℕ → List ℕ
 arrivedTickets zero ticket = []
 arrivedTickets (suc n) ticket = ticket ∷ []
+
+-- the tickets of those numbers that are held, among the m from a start on
+unfoldable pub ticketsFrom : ℕ → List ℕ → ℕ → ℕ → List ℕ
+ticketsFrom held tickets start zero = []
+ticketsFrom held tickets start (suc m) = cond (member held (start % 64)) (getD tickets (start % 64) 0 ∷ []) [] ++ ticketsFrom held tickets (suc start) m

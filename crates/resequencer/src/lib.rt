@@ -1,15 +1,19 @@
 // The resequencer (document 01, "The resequencer").
 ghost use mathlib.Core.Path.{_≡_};
 ghost use mathlib.Core.Bool.{true};
-ghost use mathlib.Core.List.{_++_};
+ghost use mathlib.Core.List.{[], _++_};
 ghost use Prim.Native.Nat.{_+_, _^_, _≤_, _<_};
 ghost use lib.Dec.{eqb};
-ghost use lib.ListN.{length};
+ghost use lib.ListN.{length, replicate};
+ghost use Rattle.refusal.specs.Numbers.{check};
+ghost use Rattle.refusal.specs.declared.Refusal.the-variants.{NotInOrder};
 ghost use Rattle.sequence.specs.Numbers.{link};
 ghost use Rattle.wordset.specs.Sets.{member, every};
+ghost use Rattle.resequencer.specs.declared.Outcome.the-variants.{Held};
 ghost use Rattle.resequencer.specs.State.{freshState, goodOrder};
-ghost use Rattle.resequencer.specs.Events.{outcomeNumber, plain, places, handOn, advance, heldTickets, startsClock, hold, handOnRun, takeArrival, arriveVerdict, arriveOf, takeClockEnd, clockEndVerdict, clockEndOf};
-ghost use Rattle.resequencer.specs.Parts.{windowInOrder, hsnrInOrder, ticketFits, gatherStray, passedNumbers, ticketsLeft, hsnrLeft, arrivedTickets};
+ghost use Rattle.resequencer.specs.Events.{outcomeNumber, plain, places, handOn, advance, startsClock, hold, takeArrival, arriveVerdict, arriveOf, takeClockEnd, clockEndVerdict, clockEndOf};
+ghost use Rattle.resequencer.specs.Parts.{windowInOrder, hsnrInOrder, ticketFits, gatherStray, passedNumbers, ticketsLeft, hsnrLeft, arrivedTickets, ticketsFrom};
+ghost use Rattle.resequencer.specs.Numbers.{numbersOf, bare, numbersInOrder, stepBy, arriveStep, clockEndStep, StepFits, stepAnswer};
 use refusal::Refusal;
 use refusal::Verdict;
 use sequence::LinkNumber;
@@ -42,10 +46,19 @@ pub struct Answer {
     pub next: Resequencer,
 }
 
-// Tickets handed on: `count` of them in order and then zeros.
-struct Handed {
-    count: u8,
-    tickets: [u16; 32],
+// A state without its tickets: what the rules about numbers go by, also for callers that keep the tickets elsewhere.
+pub struct Numbers {
+    pub nesn: LinkNumber,
+    pub hsnr: LinkNumber,
+    pub held: u64,
+    pub clocks: u64,
+}
+
+// What an arrival or a clock end does to the numbers: the outcome, the numbers after it, and how many NESN passes.
+pub struct Step {
+    pub outcome: Outcome,
+    pub next: Numbers,
+    pub passed: u8,
 }
 
 impl Outcome {
@@ -84,16 +97,11 @@ fn hsnr_in_order(h: u64, c: u64, e: u8, hsnr: LinkNumber) -> bool
     }
 }
 
-// The ones of stray tickets, those of numbers not held, with one ticket more: it is stray unless its number, at place j, is held.
-fn gather_stray(stray: u16, held: u16, j: usize, ticket: u16) -> u16
-    requires { ⌜ j < 8 ⌝ }
-    ensures { λ r. ⌜ r ≡ gatherStray stray (member held j) ticket ⌝ }
+// The ones of stray tickets, those of numbers not held, with one ticket more.
+pub fn gather_stray(stray: u16, held: bool, ticket: u16) -> u16
+    ensures { λ r. ⌜ r ≡ gatherStray stray held ticket ⌝ }
 {
-    if (held >> j) & 1 == 1 {
-        stray
-    } else {
-        stray | ticket
-    }
+    if held { stray } else { stray | ticket }
 }
 
 // The same with the tickets of the eight numbers from p on; a machine with wide words does eight at once.
@@ -105,7 +113,7 @@ fn gather_eight(stray: u16, held: u64, tickets: &[u16; 64], p: usize) -> u16
     let mut ones = stray;
     let mut j: usize = 0;
     while j < 8 {
-        ones = gather_stray(ones, eight, j, tickets[p + j]);
+        ones = gather_stray(ones, (eight >> j) & 1 == 1, tickets[p + j]);
         j += 1;
     }
     ones
@@ -132,17 +140,44 @@ fn passed_numbers(nesn: u8, m: u8) -> u64
     set64::rotate((1u64 << m) - 1, 64 - nesn)
 }
 
-// The tickets with 0 for the m numbers from NESN on.
-fn tickets_left(tickets: [u16; 64], nesn: u8, m: u8) -> [u16; 64]
-    requires { ⌜ (nesn < 64) × (m < 64) ⌝ }
-    ensures { λ r. ⌜ r ≡ ticketsLeft tickets nesn m ⌝ }
+// Puts 0 for the tickets of the m numbers from NESN on.
+fn clear_passed(tickets: &mut [u16; 64], nesn: u8, m: u8)
+    requires { ⌜ (nesn < 64) × ((m < 64) × (length (now tickets) ≡ 64)) ⌝ }
+    ensures { λ _. ⌜ now (tickets .exit) ≡ ticketsLeft (now (tickets .entry)) nesn m ⌝ }
 {
-    let mut left = tickets;
     for i in 0..m {
         let at = ((nesn + i) % 64) as usize;
-        left[at] = 0;
+        tickets[at] = 0;
     }
-    left
+}
+
+// Gathers into `out`, all 0 so far, the tickets of those numbers that are held among the m from the start on, in window order; where d is 1,
+// after the ticket of the packet that has just arrived. The answer is how many there are.
+fn gather_held(
+    out: &mut [u16; 32],
+    held: u64,
+    tickets: &[u16; 64],
+    start: u8,
+    d: u8,
+    ticket: u16,
+    m: u8,
+) -> u8
+    requires { ⌜ (now out ≡ replicate 32 0) × ((start ≤ 64) × ((d ≤ 1) × ((d + m ≤ 32) × (d ≡ 0 → ticket ≡ 0)))) ⌝ }
+    ensures { λ r. ⌜ r ≡ length (arrivedTickets d ticket ++ ticketsFrom held (now (tickets .entry)) start m) ⌝ }
+    ensures { λ _. ⌜ now (out .exit) ≡ places (arrivedTickets d ticket ++ ticketsFrom held (now (tickets .entry)) start m) ⌝ }
+{
+    out[0] = ticket;
+    let mut count = d;
+    for i in 0..m {
+        let number = (start + i) % 64;
+        if set64::member(held, number) {
+            let from = number as usize;
+            let to = count as usize;
+            out[to] = tickets[from];
+            count += 1;
+        }
+    }
+    count
 }
 
 // HSNR once numbers are passed: 0 when nothing is left held.
@@ -150,6 +185,206 @@ fn hsnr_left(held: u64, hsnr: LinkNumber) -> LinkNumber
     ensures { λ r. ⌜ r ≡ hsnrLeft held hsnr ⌝ }
 {
     if held == 0 { LinkNumber(0) } else { hsnr }
+}
+
+impl Numbers {
+    // Whether the numbers are in good order, with tickets that fit them.
+    pub fn in_order(self) -> bool
+        ensures { λ r. ⌜ r ≡ numbersInOrder self ⌝ }
+    {
+        let nesn = self.nesn;
+        let hsnr = self.hsnr;
+        if nesn.in_field() {
+            let h = set64::rotate(self.held, nesn.0);
+            let c = set64::rotate(self.clocks, nesn.0);
+            if window_in_order(h, c) {
+                return hsnr_in_order(h, c, nesn.distance_to(hsnr), hsnr);
+            }
+        }
+        false
+    }
+
+    // The step that changes nothing.
+    fn stay(self, outcome: Outcome) -> Step
+        ensures { λ r. ⌜ r ≡ stepBy self (plain outcome (bare self)) ⌝ }
+    {
+        Step {
+            outcome,
+            next: self,
+            passed: 0,
+        }
+    }
+
+    // NESN goes up by m: the numbers passed are no longer held and their clocks stop.
+    fn advance(self, m: u8) -> Numbers
+        requires { ⌜ (self .nesn .0 < 64) × (m < 64) ⌝ }
+        ensures { λ r. ⌜ r ≡ numbersOf (advance (bare self) m) ⌝ }
+    {
+        let nesn = self.nesn;
+        let passed = passed_numbers(nesn.0, m);
+        let held = set64::difference(self.held, passed);
+        let clocks = set64::difference(self.clocks, passed);
+        let hsnr = hsnr_left(held, self.hsnr);
+        Numbers {
+            nesn: LinkNumber((nesn.0 + m) % 64),
+            hsnr: hsnr,
+            held: held,
+            clocks: clocks,
+        }
+    }
+
+    // The step that passes m numbers.
+    fn pass(self, m: u8) -> Step
+        requires { ⌜ (self .nesn .0 < 64) × (m < 64) ⌝ }
+        ensures { λ r. ⌜ r ≡ stepBy self (handOn [] (advance (bare self) m)) ⌝ }
+    {
+        Step {
+            outcome: Outcome::HandedOn,
+            next: self.advance(m),
+            passed: m,
+        }
+    }
+
+    // Whether a clock starts for a number that is to be held: none runs, or the number is further than HSNR + 1.
+    fn starts_clock(self, sn: LinkNumber) -> bool
+        ensures { λ r. ⌜ r ≡ startsClock (bare self) (sn .0) ⌝ }
+    {
+        let nesn = self.nesn;
+        let hsnr = self.hsnr;
+        self.clocks == 0 || nesn.distance_to(hsnr) + 1 < nesn.distance_to(sn)
+    }
+
+    // HSNR once a number is held: that number where it starts a clock or follows HSNR.
+    fn hsnr_with(self, sn: LinkNumber) -> LinkNumber
+        ensures { λ r. ⌜ r ≡ hold (bare self) (sn .0) 0 .hsnr ⌝ }
+    {
+        let nesn = self.nesn;
+        let hsnr = self.hsnr;
+        if self.starts_clock(sn) {
+            sn
+        } else if nesn.distance_to(sn) == nesn.distance_to(hsnr) + 1 {
+            sn
+        } else {
+            hsnr
+        }
+    }
+
+    // The clocks once a number is held.
+    fn clocks_with(self, sn: LinkNumber) -> u64
+        ensures { λ r. ⌜ r ≡ hold (bare self) (sn .0) 0 .clocks ⌝ }
+    {
+        if self.starts_clock(sn) {
+            set64::with(self.clocks, sn.0)
+        } else {
+            self.clocks
+        }
+    }
+
+    // The step that holds a number.
+    fn hold(self, sn: LinkNumber) -> Step
+        ensures { λ r. ⌜ r ≡ stepBy self (plain Held (hold (bare self) (sn .0) 0)) ⌝ }
+    {
+        let nesn = self.nesn;
+        let hsnr = self.hsnr_with(sn);
+        let held = set64::with(self.held, sn.0);
+        let clocks = self.clocks_with(sn);
+        Step {
+            outcome: Outcome::Held,
+            next: Numbers {
+                nesn: nesn,
+                hsnr: hsnr,
+                held: held,
+                clocks: clocks,
+            },
+            passed: 0,
+        }
+    }
+
+    // Whether an arrival may be taken, checked in the order 14, 1.
+    fn check_arrive(self, fits: bool, sn: LinkNumber) -> Verdict
+        ensures { λ r. ⌜ r ≡ check fits NotInOrder (arriveVerdict (bare self) (sn .0)) ⌝ }
+    {
+        if fits && self.in_order() {
+            if sn.in_field() {
+                Verdict::Done
+            } else {
+                Verdict::Refused(Refusal::OutOfRange)
+            }
+        } else {
+            Verdict::Refused(Refusal::NotInOrder)
+        }
+    }
+
+    // What an arrival does that is not refused.
+    fn take_arrival(self, sn: LinkNumber) -> Step
+        requires { ⌜ (numbersInOrder self ≡ true) × (sn .0 < 64) ⌝ }
+        ensures { λ r. ⌜ r ≡ stepBy self (takeArrival (bare self) (sn .0) 0) ⌝ }
+    {
+        let nesn = self.nesn;
+        let d = nesn.distance_to(sn);
+        if 31 < d {
+            self.stay(Outcome::Old)
+        } else if set64::member(self.held, sn.0) {
+            self.stay(Outcome::Duplicate)
+        } else if d == 0 {
+            let after = nesn.next();
+            self.pass(set64::run(self.held, after.0) + 1)
+        } else {
+            self.hold(sn)
+        }
+    }
+
+    // A packet arrives: what this does to the numbers. `fits` tells whether the tickets fit them: those of numbers not held are 0.
+    pub fn arrive(self, fits: bool, sn: LinkNumber) -> Step
+        ensures { λ r. ⌜ r ≡ arriveStep fits self (sn .0) ⌝ }
+    {
+        let verdict = self.check_arrive(fits, sn);
+        match verdict {
+            Verdict::Done => self.take_arrival(sn),
+            Verdict::Refused(why) => self.stay(Outcome::Refused(why)),
+        }
+    }
+
+    // Whether the end of a clock may be taken, checked in the order 14, 1, 7.
+    fn check_clock_end(self, fits: bool, sn: LinkNumber) -> Verdict
+        ensures { λ r. ⌜ r ≡ check fits NotInOrder (clockEndVerdict (bare self) (sn .0)) ⌝ }
+    {
+        if fits && self.in_order() {
+            if sn.in_field() {
+                if set64::member(self.clocks, sn.0) {
+                    Verdict::Done
+                } else {
+                    Verdict::Refused(Refusal::NoClock)
+                }
+            } else {
+                Verdict::Refused(Refusal::OutOfRange)
+            }
+        } else {
+            Verdict::Refused(Refusal::NotInOrder)
+        }
+    }
+
+    // What the end of a running clock does: NESN goes to the first number after it that is not held.
+    fn take_clock_end(self, sn: LinkNumber) -> Step
+        requires { ⌜ (numbersInOrder self ≡ true) × ((sn .0 < 64) × (member (self .clocks) (sn .0) ≡ true)) ⌝ }
+        ensures { λ r. ⌜ r ≡ stepBy self (takeClockEnd (bare self) (sn .0)) ⌝ }
+    {
+        let nesn = self.nesn;
+        let after = sn.next();
+        let run = set64::run(self.held, after.0);
+        self.pass(nesn.distance_to(sn) + 1 + run)
+    }
+
+    // The clock of a number ends: what this does to the numbers.
+    pub fn clock_end(self, fits: bool, sn: LinkNumber) -> Step
+        ensures { λ r. ⌜ r ≡ clockEndStep fits self (sn .0) ⌝ }
+    {
+        let verdict = self.check_clock_end(fits, sn);
+        match verdict {
+            Verdict::Done => self.take_clock_end(sn),
+            Verdict::Refused(why) => self.stay(Outcome::Refused(why)),
+        }
+    }
 }
 
 impl Resequencer {
@@ -166,198 +401,73 @@ impl Resequencer {
         }
     }
 
+    // The state without its tickets.
+    pub fn numbers(self) -> Numbers
+        ensures { λ r. ⌜ r ≡ numbersOf self ⌝ }
+    {
+        let nesn = self.nesn;
+        let hsnr = self.hsnr;
+        Numbers {
+            nesn: nesn,
+            hsnr: hsnr,
+            held: self.held,
+            clocks: self.clocks,
+        }
+    }
+
     // Whether the state is in good order: whoever can write its fields can damage it.
     pub fn in_order(self) -> bool
         ensures { λ r. ⌜ r ≡ goodOrder self ⌝ }
     {
-        let nesn = self.nesn;
-        let hsnr = self.hsnr;
-        let held = self.held;
         let tickets = self.tickets;
-        if nesn.in_field() {
-            let h = set64::rotate(held, nesn.0);
-            let c = set64::rotate(self.clocks, nesn.0);
-            if window_in_order(h, c) {
-                if hsnr_in_order(h, c, nesn.distance_to(hsnr), hsnr) {
-                    return tickets_in_order(held, &tickets);
-                }
-            }
-        }
-        false
+        tickets_in_order(self.held, &tickets) && self.numbers().in_order()
     }
 
-    // The answer that hands nothing on and leaves this state.
-    fn plain(self, outcome: Outcome) -> Answer
-        ensures { λ r. ⌜ r ≡ plain outcome self ⌝ }
+    // The answer that a step makes of this state; d is 1 where the packet's own ticket goes on first, and 0 for the end of a clock.
+    fn answer(self, step: Step, d: u8, sn: LinkNumber, ticket: u16) -> Answer
+        requires { ⌜ StepFits (self .nesn .0) step d (sn .0) ticket ⌝ }
+        ensures { λ r. ⌜ r ≡ stepAnswer self step d (sn .0) ticket ⌝ }
     {
+        let outcome = step.outcome;
+        let next = step.next;
+        let nesn = next.nesn;
+        let hsnr = next.hsnr;
+        let start = self.nesn.0;
+        let mut tickets = self.tickets;
+        let mut out = [0u16; 32];
+        let mut count: u8 = 0;
+        match outcome {
+            Outcome::HandedOn => {
+                count = gather_held(
+                    &mut out,
+                    self.held,
+                    &tickets,
+                    start + d,
+                    d,
+                    ticket,
+                    step.passed - d,
+                );
+                clear_passed(&mut tickets, start, step.passed);
+            }
+            Outcome::Held => {
+                let at = sn.0 as usize;
+                tickets[at] = ticket;
+            }
+            Outcome::Old => {}
+            Outcome::Duplicate => {}
+            Outcome::Refused(_why) => {}
+        }
         Answer {
             outcome,
-            count: 0,
-            tickets: [0u16; 32],
-            next: self,
-        }
-    }
-
-    // NESN goes up by m: the numbers passed are no longer held and their clocks stop.
-    fn advance(self, m: u8) -> Resequencer
-        requires { ⌜ (self .nesn .0 < 64) × (m < 64) ⌝ }
-        ensures { λ r. ⌜ r ≡ advance self m ⌝ }
-    {
-        let nesn = self.nesn;
-        let tickets = self.tickets;
-        let passed = passed_numbers(nesn.0, m);
-        let held = set64::difference(self.held, passed);
-        let clocks = set64::difference(self.clocks, passed);
-        let hsnr = hsnr_left(held, self.hsnr);
-        let left = tickets_left(tickets, nesn.0, m);
-        Resequencer {
-            nesn: LinkNumber((nesn.0 + m) % 64),
-            hsnr: hsnr,
-            held: held,
-            clocks: clocks,
-            tickets: left,
-        }
-    }
-
-    // The tickets of those numbers that are held among the m from distance d on, in window order; where d is 1, after the ticket of the packet
-    // that has just arrived.
-    fn held_tickets(self, d: u8, ticket: u16, m: u8) -> Handed
-        requires { ⌜ (self .nesn .0 < 64) × ((d ≤ 1) × ((d + m ≤ 32) × (d ≡ 0 → ticket ≡ 0))) ⌝ }
-        ensures { λ r. ⌜ (r .count ≡ length (arrivedTickets d ticket ++ heldTickets self d m)) × (r .tickets ≡ places (arrivedTickets d ticket ++ heldTickets self d m)) ⌝ }
-    {
-        let start = self.nesn.0 + d;
-        let held = self.held;
-        let tickets = self.tickets;
-        let mut out = [0u16; 32];
-        out[0] = ticket;
-        let mut count = d;
-        for i in 0..m {
-            let number = (start + i) % 64;
-            if set64::member(held, number) {
-                let from = number as usize;
-                let to = count as usize;
-                out[to] = tickets[from];
-                count += 1;
-            }
-        }
-        Handed {
             count: count,
             tickets: out,
-        }
-    }
-
-    // The hand-on of these tickets, NESN going up past them.
-    fn hand_on(self, d: u8, ticket: u16, m: u8) -> Answer
-        requires { ⌜ (self .nesn .0 < 64) × ((d ≤ 1) × ((d + m ≤ 32) × (d ≡ 0 → ticket ≡ 0))) ⌝ }
-        ensures { λ r. ⌜ r ≡ handOn (arrivedTickets d ticket ++ heldTickets self d m) (advance self (m + d)) ⌝ }
-    {
-        let handed = self.held_tickets(d, ticket, m);
-        let count = handed.count;
-        let tickets = handed.tickets;
-        Answer {
-            outcome: Outcome::HandedOn,
-            count: count,
-            tickets: tickets,
-            next: self.advance(m + d),
-        }
-    }
-
-    // Whether a clock starts for a number that is to be held: none runs, or the number is further than HSNR + 1.
-    fn starts_clock(self, sn: LinkNumber) -> bool
-        ensures { λ r. ⌜ r ≡ startsClock self (sn .0) ⌝ }
-    {
-        let nesn = self.nesn;
-        let hsnr = self.hsnr;
-        self.clocks == 0 || nesn.distance_to(hsnr) + 1 < nesn.distance_to(sn)
-    }
-
-    // HSNR once a number is held: that number where it starts a clock or follows HSNR.
-    fn hsnr_with(self, sn: LinkNumber) -> LinkNumber
-        ensures { λ r. ⌜ r ≡ hold self (sn .0) 0 .hsnr ⌝ }
-    {
-        let nesn = self.nesn;
-        let hsnr = self.hsnr;
-        if self.starts_clock(sn) {
-            sn
-        } else if nesn.distance_to(sn) == nesn.distance_to(hsnr) + 1 {
-            sn
-        } else {
-            hsnr
-        }
-    }
-
-    // The clocks once a number is held.
-    fn clocks_with(self, sn: LinkNumber) -> u64
-        ensures { λ r. ⌜ r ≡ hold self (sn .0) 0 .clocks ⌝ }
-    {
-        if self.starts_clock(sn) {
-            set64::with(self.clocks, sn.0)
-        } else {
-            self.clocks
-        }
-    }
-
-    // The state with a number held.
-    fn hold(self, sn: LinkNumber, ticket: u16) -> Resequencer
-        requires { ⌜ sn .0 < 64 ⌝ }
-        ensures { λ r. ⌜ r ≡ hold self (sn .0) ticket ⌝ }
-    {
-        let nesn = self.nesn;
-        let hsnr = self.hsnr_with(sn);
-        let held = set64::with(self.held, sn.0);
-        let clocks = self.clocks_with(sn);
-        let mut tickets = self.tickets;
-        let at = sn.0 as usize;
-        tickets[at] = ticket;
-        Resequencer {
-            nesn: nesn,
-            hsnr: hsnr,
-            held: held,
-            clocks: clocks,
-            tickets: tickets,
-        }
-    }
-
-    // Whether an arrival may be taken, checked in the order 14, 1.
-    fn check_arrive(self, sn: LinkNumber) -> Verdict
-        ensures { λ r. ⌜ r ≡ arriveVerdict self (sn .0) ⌝ }
-    {
-        if self.in_order() {
-            if sn.in_field() {
-                Verdict::Done
-            } else {
-                Verdict::Refused(Refusal::OutOfRange)
-            }
-        } else {
-            Verdict::Refused(Refusal::NotInOrder)
-        }
-    }
-
-    // The expected number arrives: its ticket is handed on, and those of the unbroken run after it.
-    fn hand_on_run(self, ticket: u16) -> Answer
-        requires { ⌜ goodOrder self ≡ true ⌝ }
-        ensures { λ r. ⌜ r ≡ handOnRun self ticket ⌝ }
-    {
-        let nesn = self.nesn;
-        let after = nesn.next();
-        self.hand_on(1, ticket, set64::run(self.held, after.0))
-    }
-
-    // What an arrival does that is not refused.
-    fn take_arrival(self, sn: LinkNumber, ticket: u16) -> Answer
-        requires { ⌜ (goodOrder self ≡ true) × (sn .0 < 64) ⌝ }
-        ensures { λ r. ⌜ r ≡ takeArrival self (sn .0) ticket ⌝ }
-    {
-        let nesn = self.nesn;
-        let d = nesn.distance_to(sn);
-        if 31 < d {
-            self.plain(Outcome::Old)
-        } else if set64::member(self.held, sn.0) {
-            self.plain(Outcome::Duplicate)
-        } else if d == 0 {
-            self.hand_on_run(ticket)
-        } else {
-            self.hold(sn, ticket).plain(Outcome::Held)
+            next: Resequencer {
+                nesn: nesn,
+                hsnr: hsnr,
+                held: next.held,
+                clocks: next.clocks,
+                tickets: tickets,
+            },
         }
     }
 
@@ -365,51 +475,19 @@ impl Resequencer {
     pub fn arrive(self, sn: LinkNumber, ticket: u16) -> Answer
         ensures { λ r. ⌜ r ≡ arriveOf self (sn .0) ticket ⌝ }
     {
-        let verdict = self.check_arrive(sn);
-        match verdict {
-            Verdict::Done => self.take_arrival(sn, ticket),
-            Verdict::Refused(why) => self.plain(Outcome::Refused(why)),
-        }
-    }
-
-    // Whether the end of a clock may be taken, checked in the order 14, 1, 7.
-    fn check_clock_end(self, sn: LinkNumber) -> Verdict
-        ensures { λ r. ⌜ r ≡ clockEndVerdict self (sn .0) ⌝ }
-    {
-        if self.in_order() {
-            if sn.in_field() {
-                if set64::member(self.clocks, sn.0) {
-                    Verdict::Done
-                } else {
-                    Verdict::Refused(Refusal::NoClock)
-                }
-            } else {
-                Verdict::Refused(Refusal::OutOfRange)
-            }
-        } else {
-            Verdict::Refused(Refusal::NotInOrder)
-        }
-    }
-
-    // What the end of a running clock does: NESN goes to the first number after it that is not held.
-    fn take_clock_end(self, sn: LinkNumber) -> Answer
-        requires { ⌜ (goodOrder self ≡ true) × ((sn .0 < 64) × (member (self .clocks) (sn .0) ≡ true)) ⌝ }
-        ensures { λ r. ⌜ r ≡ takeClockEnd self (sn .0) ⌝ }
-    {
-        let nesn = self.nesn;
-        let after = sn.next();
-        let run = set64::run(self.held, after.0);
-        self.hand_on(0, 0, nesn.distance_to(sn) + 1 + run)
+        let tickets = self.tickets;
+        let step = self.numbers()
+            .arrive(tickets_in_order(self.held, &tickets), sn);
+        self.answer(step, 1, sn, ticket)
     }
 
     // The clock of a number ends: the tickets that this lets go, and the state after it.
     pub fn clock_end(self, sn: LinkNumber) -> Answer
         ensures { λ r. ⌜ r ≡ clockEndOf self (sn .0) ⌝ }
     {
-        let verdict = self.check_clock_end(sn);
-        match verdict {
-            Verdict::Done => self.take_clock_end(sn),
-            Verdict::Refused(why) => self.plain(Outcome::Refused(why)),
-        }
+        let tickets = self.tickets;
+        let step = self.numbers()
+            .clock_end(tickets_in_order(self.held, &tickets), sn);
+        self.answer(step, 0, sn, 0)
     }
 }

@@ -2,23 +2,33 @@
 -- Assumes nothing.
 use mathlib.Core.Path.{_≡_, refl, sym, ap, ap₂, _∙_, subst}
 use mathlib.Core.Bool.{Bool, true, false, cond, _&&_}
-use mathlib.Core.List.{List}
+use mathlib.Core.List.{List, [], _++_}
 use mathlib.Core.Logic.{_≢_}
-use Prim.Native.Nat.{ℕ, _+_, _*_, _≤_}
+use Prim.Native.Nat.{ℕ, _+_, _-_, _*_, _≤_, _<_}
 use native.Mathlib.Omega.{arith}
 use lib.Dec.{eqb}
-use lib.ListN.{length}
+use lib.ListN.{length, set, take, drop, replicate, length-drop}
+use lib.Seq.{take-all, paste}
 use borrow.Author.Tests.{eq-eqb, ne-eqb, eqb-false}
+use Rattle.little.specs.Little.{littleBytes, listBytes}
 use Rattle.little.specs.Law.{Below}
-use Rattle.wordset.specs.Sets.{digit}
+use Rattle.little.proofs.Little.{length-list}
+use Rattle.wordset.specs.Sets.{digit, every}
 use Rattle.resequencer.specs.declared.Resequencer.{Resequencer}
+use Rattle.resequencer.specs.declared.Numbers.{Numbers}
+use Rattle.resequencer.specs.declared.Step.{Step}
 use Rattle.resequencer.specs.declared.Outcome.{Outcome}
 use Rattle.resequencer.specs.declared.Outcome.the-variants.{Held, HandedOn, Old, Duplicate, Refused}
 use Rattle.resequencer.specs.declared.Answer.{Answer}
 use Rattle.resequencer.specs.State.{freshState, goodOrder}
-use Rattle.resequencer.specs.Events.{outcomeNumber, plain, arriveOf, clockEndOf}
+use Rattle.resequencer.specs.Events.{outcomeNumber, plain, places, heldTickets, arriveOf, clockEndOf}
+use Rattle.resequencer.specs.Parts.{ticketFits, ticketsLeft, arrivedTickets, ticketsFrom}
+use Rattle.resequencer.specs.Numbers.{numbersOf, handsOn, holds, stepTickets, stepState, stepAnswer}
+use Rattle.resequencer.proofs.Handing.{held-from}
 use Rattle.resequencer.proofs.Refusing.{refusals-change-nothing}
 use Rattle.resequencer_bytes.specs.Stored.{isCall, stateIn, stateBytes, outcomeKind, answerCode, codeBy, bytesBy, ticketsBy, freshCode, freshBytes, orderCode}
+use Rattle.resequencer_bytes.specs.Parts.{ticketsIn, withNumbers, withTickets}
+use Rattle.resequencer_bytes.proofs.Writing.{tickets-same, ticket-put, state-made}
 use Rattle.resequencer_bytes.proofs.Stored.{written-back}
 
 pub kind-most : (o : Outcome) → outcomeKind o ≤ 3
@@ -28,17 +38,91 @@ kind-most Old = omega arith
 kind-most Duplicate = omega arith
 kind-most (Refused why) = omega arith
 
+-- ---- the tickets as a step moves them
+
+-- all that is behind the numbers
+pub behind : (b : List ℕ) → length b ≡ 146 → take 128 (drop 18 b) ≡ drop 18 b
+behind b l = take-all 128 (drop 18 b) (omega (arith, length-drop 18 b))
+
+abbrev pub Moved : List ℕ → Step → ℕ → ℕ → ℕ → ℕ → List ℕ → List ℕ → Type 0
+Moved b step d n ticket count out x =
+    (count ≡ length (stepTickets (stateIn b) step d ticket))
+    × ((out ≡ places (stepTickets (stateIn b) step d ticket))
+    × (x ≡ withTickets b (stepState (stateIn b) step n ticket .tickets)))
+
+module _ (b : List ℕ) (step : Step) (d n ticket : ℕ) where
+  by-outcome : (h k : Bool) (count : ℕ) (out x : List ℕ) → handsOn (step .outcome) ≡ h → holds (step .outcome) ≡ k
+      → count ≡ length (cond h (arrivedTickets d ticket ++ heldTickets (stateIn b) d (step .passed - d)) [])
+      → out ≡ places (cond h (arrivedTickets d ticket ++ heldTickets (stateIn b) d (step .passed - d)) [])
+      → x ≡ withTickets b (cond h (ticketsLeft (stateIn b .tickets) (stateIn b .nesn .0) (step .passed)) (cond k (set (stateIn b .tickets) n ticket) (stateIn b .tickets)))
+      → Moved b step d n ticket count out x
+  unfolding stepTickets stepState
+  by-outcome h k count out x e f c o y =
+      let t : cond h (arrivedTickets d ticket ++ heldTickets (stateIn b) d (step .passed - d)) [] ≡ stepTickets (stateIn b) step d ticket =
+      ap (λ (q : Bool). cond q (arrivedTickets d ticket ++ heldTickets (stateIn b) d (step .passed - d)) []) (sym e) in (
+        c ∙ ap length t,
+        (
+          o ∙ ap places t,
+          y ∙ ap₂ (λ (q r : Bool). withTickets b (cond q (ticketsLeft (stateIn b .tickets) (stateIn b .nesn .0) (step .passed)) (cond r (set (stateIn b .tickets) n ticket) (stateIn b .tickets)))) (sym e) (sym f),
+        ),
+      )
+
+  pub moved-on : (m : Numbers) (count : ℕ) (out x : List ℕ) → length b ≡ 146 → m ≡ numbersOf (stateIn b) → handsOn (step .outcome) ≡ true
+      → count ≡ length (arrivedTickets d ticket ++ ticketsFrom (m .held) (ticketsIn (take 128 (drop 18 b))) (m .nesn .0 + d) (step .passed - d))
+      → out ≡ places (arrivedTickets d ticket ++ ticketsFrom (m .held) (ticketsIn (take 128 (drop 18 b))) (m .nesn .0 + d) (step .passed - d))
+      → x ≡ withTickets b (ticketsLeft (ticketsIn (drop 18 b)) (m .nesn .0) (step .passed))
+      → Moved b step d n ticket count out x
+  unfolding stateIn
+  moved-on m count out x l e h c o y =
+      let t : ticketsFrom (m .held) (ticketsIn (take 128 (drop 18 b))) (m .nesn .0 + d) (step .passed - d) ≡ heldTickets (stateIn b) d (step .passed - d) =
+      ap₂ (λ (q : Numbers) (r : List ℕ). ticketsFrom (q .held) (ticketsIn r) (q .nesn .0 + d) (step .passed - d)) e (behind b l) ∙ held-from (stateIn b) d (step .passed - d) in
+      by-outcome true (holds (step .outcome)) count out x h refl
+      (c ∙ ap (λ (q : List ℕ). length (arrivedTickets d ticket ++ q)) t)
+      (o ∙ ap (λ (q : List ℕ). places (arrivedTickets d ticket ++ q)) t)
+      (y ∙ ap (λ (q : Numbers). withTickets b (ticketsLeft (ticketsIn (drop 18 b)) (q .nesn .0) (step .passed))) e)
+
+  pub moved-in : (out x : List ℕ) → length b ≡ 146 → Below 256 b → n < 64 → handsOn (step .outcome) ≡ false → holds (step .outcome) ≡ true → out ≡ replicate 32 0
+      → x ≡ paste b (18 + 2 * n) (littleBytes 2 ticket) 2 → Moved b step d n ticket 0 out x
+  unfolding stateIn places
+  moved-in out x l low h e f o y =
+      by-outcome false true 0 out x e f refl o
+      (y ∙ ap (λ (q : List ℕ). paste q (18 + 2 * n) (littleBytes 2 ticket) 2) (tickets-same b l low)
+      ∙ ticket-put b (ticketsIn (drop 18 b)) l n ticket (omega (arith, length-list 2 64 (drop 18 b))))
+
+  pub moved-none : (out : List ℕ) → length b ≡ 146 → Below 256 b → handsOn (step .outcome) ≡ false → holds (step .outcome) ≡ false → out ≡ replicate 32 0 → Moved b step d n ticket 0 out b
+  unfolding stateIn places
+  moved-none out l low e f o = by-outcome false false 0 out b e f refl o (tickets-same b l low)
+
 -- ---- an answer
 
-pub code-is : (a : Answer) (n k : ℕ) → n ≡ outcomeNumber (a .outcome) → k ≡ outcomeKind (a .outcome) → n + 256 * k + 65536 * a .count ≡ answerCode a
-unfolding answerCode
-code-is a n k e f = ap₂ (λ (x y : ℕ). x + 256 * y + 65536 * a .count) e f
+pub taken : (o : Outcome) (n : ℕ) (x y z : List ℕ) → n ≡ outcomeNumber o → n ≡ 0 → x ≡ y → x ≡ cond (eqb (outcomeNumber o) 0) y z
+taken o n x y z e q p = p ∙ ap (λ (b : Bool). cond b y z) (sym (eq-eqb (outcomeNumber o) 0 (sym e ∙ q)))
 
-pub taken : (a : Answer) (n : ℕ) (x y z : List ℕ) → n ≡ outcomeNumber (a .outcome) → n ≡ 0 → x ≡ y → x ≡ cond (eqb (outcomeNumber (a .outcome)) 0) y z
-taken a n x y z e q p = p ∙ ap (λ (b : Bool). cond b y z) (sym (eq-eqb (outcomeNumber (a .outcome)) 0 (sym e ∙ q)))
+pub refused : (o : Outcome) (n : ℕ) (y z : List ℕ) → n ≡ outcomeNumber o → n ≢ 0 → z ≡ cond (eqb (outcomeNumber o) 0) y z
+refused o n y z e q = ap (λ (b : Bool). cond b y z) (sym (ne-eqb (outcomeNumber o) 0 (λ w. q (e ∙ w))))
 
-pub refused : (a : Answer) (n : ℕ) (y z : List ℕ) → n ≡ outcomeNumber (a .outcome) → n ≢ 0 → z ≡ cond (eqb (outcomeNumber (a .outcome)) 0) y z
-refused a n y z e q = ap (λ (b : Bool). cond b y z) (sym (ne-eqb (outcomeNumber (a .outcome)) 0 (λ w. q (e ∙ w))))
+module _ (s : Resequencer) (step : Step) (d n ticket : ℕ) where
+  -- a refusal is its number
+  pub refused-code : (number : ℕ) → number ≡ outcomeNumber (step .outcome) → number ≢ 0 → number ≡ answerCode (stepAnswer s step d n ticket)
+  unfolding answerCode stepAnswer stepTickets
+  refused-code number e q =
+      e ∙ go (step .outcome) (arrivedTickets d ticket ++ heldTickets s d (step .passed - d)) (λ z. q (e ∙ z))
+    where
+      go : (o : Outcome) (l : List ℕ) → outcomeNumber o ≢ 0 → outcomeNumber o ≡ outcomeNumber o + 256 * outcomeKind o + 65536 * length (cond (handsOn o) l [])
+      go Held l h = absurd (h refl)
+      go HandedOn l h = absurd (h refl)
+      go Old l h = absurd (h refl)
+      go Duplicate l h = absurd (h refl)
+      go (Refused why) l h = omega arith
+
+  pub taken-code : (number k count : ℕ) → number ≡ outcomeNumber (step .outcome) → number ≡ 0 → k ≡ outcomeKind (step .outcome) → count ≡ length (stepTickets s step d ticket)
+      → 256 * k + 65536 * count ≡ answerCode (stepAnswer s step d n ticket)
+  unfolding answerCode stepAnswer
+  taken-code number k count e z q c = omega (arith, e, z, q, c)
+
+  pub taken-state : (b x y : List ℕ) → length b ≡ 146 → x ≡ withTickets b (stepState s step n ticket .tickets) → y ≡ withNumbers x (step .next) → y ≡ stateBytes (stepState s step n ticket)
+  unfolding stepState
+  taken-state b x y l e q = q ∙ state-made b x (stepState s step n ticket) l e
 
 -- ---- a call: what it answers, the bytes and the places after it
 
@@ -88,21 +172,40 @@ done a c b out r b′ out′ lb lo low e stays written =
     bytes true q = refl
     bytes false q = sym (ap stateBytes (stays (eqb-false (outcomeNumber (c .outcome)) 0 q)) ∙ written-back b lb low)
 
+-- the answer that a step makes
+pub as-written : (s : Resequencer) (step : Step) (d n ticket : ℕ) (b out : List ℕ) (r : ℕ) (b′ out′ : List ℕ)
+    → (r ≡ answerCode (stepAnswer s step d n ticket))
+    × ((b′ ≡ cond (eqb (outcomeNumber (step .outcome)) 0) (stateBytes (stepState s step n ticket)) b)
+    × (out′ ≡ cond (eqb (outcomeNumber (step .outcome)) 0) (places (stepTickets s step d ticket)) out))
+    → Written (stepAnswer s step d n ticket) b out r b′ out′
+unfolding stepAnswer
+as-written s step d n ticket b out r b′ out′ w = w
+
+-- the tickets in their bytes, as the code looks at them
+pub stored-fit : (b : List ℕ) (m : Numbers) (fits : Bool) → length b ≡ 146 → m ≡ numbersOf (stateIn b) → fits ≡ every 64 (ticketFits (m .held) (ticketsIn (take 128 (drop 18 b))))
+    → fits ≡ every 64 (ticketFits (stateIn b .held) (stateIn b .tickets))
+unfolding stateIn
+stored-fit b m fits l e f = f ∙ ap₂ (λ (q : Numbers) (r : List ℕ). every 64 (ticketFits (q .held) (ticketsIn r))) e (behind b l)
+
 -- ---- good order
 
 pub order-none : (b : List ℕ) → length b ≢ 146 → 0 ≡ orderCode b
 unfolding orderCode
 order-none b h = simp (ne-eqb (length b) 146 h)
 
-pub order-told : (b : List ℕ) (s : Resequencer) (good : Bool) → length b ≡ 146 → s ≡ stateIn b → good ≡ goodOrder s → digit good ≡ orderCode b
+pub order-code : (b : List ℕ) (good : Bool) → length b ≡ 146 → good ≡ goodOrder (stateIn b) → digit good ≡ orderCode b
 unfolding orderCode
-order-told b s good l e g = ap digit (g ∙ ap goodOrder e) ∙ ap (λ (x : Bool). digit (x && goodOrder (stateIn b))) (sym (eq-eqb (length b) 146 l))
+order-code b good l g = ap digit g ∙ ap (λ (x : Bool). digit (x && goodOrder (stateIn b))) (sym (eq-eqb (length b) 146 l))
 
 -- ---- a fresh state
 
 pub fresh-none : (b : List ℕ) → length b ≢ 146 → (14 ≡ freshCode b) × (b ≡ freshBytes b)
 unfolding freshCode freshBytes
 fresh-none b h = (simp (ne-eqb (length b) 146 h), simp (ne-eqb (length b) 146 h))
+
+pub fresh-zeros : replicate 146 0 ≡ stateBytes freshState
+unfolding stateBytes littleBytes listBytes
+fresh-zeros = refl
 
 pub fresh-done : (b x : List ℕ) → length b ≡ 146 → x ≡ stateBytes freshState → (0 ≡ freshCode b) × (x ≡ freshBytes b)
 unfolding freshCode freshBytes

@@ -21,7 +21,7 @@ use Rattle.resequencer.specs.declared.Answer.{Answer}
 use Rattle.resequencer.specs.Events.{outcomeNumber, plain, arriveOf, clockEndOf}
 use Rattle.resequencer.proofs.Refusing.{refusals-change-nothing}
 use Rattle.resequencer_bytes.specs.Stored.{isState, isCall, stateIn, stateBytes, outcomeKind, answerCode, codeBy, bytesBy, ticketsBy}
-use Rattle.resequencer_bytes.specs.Claims.{StoredLaw, RefusalsWriteNothing}
+use Rattle.resequencer_bytes.specs.Claims.{StoredLaw, RefusalsChangeNothing}
 use Rattle.resequencer_bytes.proofs.Stored.{state-back, written-back}
 
 pub stored-law : StoredLaw
@@ -64,8 +64,8 @@ kept a b out low p = go (isCall b (length out)) refl
           ap (λ (t : Bool). cond t (a .tickets) out) (ne-eqb (outcomeNumber (a .outcome)) 0 refused),
         )
 
-pub refusals-write-nothing : RefusalsWriteNothing
-refusals-write-nothing = record {
+pub refusals-change-nothing : RefusalsChangeNothing
+refusals-change-nothing = record {
   arrival = λ b out n ticket low. kept (arriveOf (stateIn b) n ticket) b out low (refusals-change-nothing .arrival (stateIn b) n ticket);
   clock-end = λ b out n low. kept (clockEndOf (stateIn b) n) b out low (refusals-change-nothing .clock-end (stateIn b) n);
 }

@@ -5,16 +5,17 @@ use mathlib.Core.List.{List, [], _∷_}
 use Prim.Native.Nat.{ℕ, suc, _+_, _*_, _<_}
 use native.Mathlib.Numerals.{add-one}
 use native.Mathlib.Omega.{arith}
-use lib.ListN.{length, getD, take, drop, set, length-drop}
-use lib.Seq.{drop-cons, take-all}
+use lib.ListN.{length, getD, take, drop}
+use lib.Seq.{drop-cons}
 use Rattle.lists.specs.Lists.{listFrom}
-use Rattle.lists.proofs.Lists.{is-from, filled, fill-next}
-use Rattle.little.specs.Little.{littleOf, littleList}
-use Rattle.little.proofs.Little.{length-list}
+use Rattle.lists.proofs.Lists.{is-from}
+use Rattle.little.specs.Little.{littleOf}
 use Rattle.little.proofs.Places.{list-at}
 use Rattle.sequence.specs.Numbers.{link}
-use Rattle.resequencer.specs.declared.Resequencer.{Resequencer}
+use Rattle.resequencer.specs.declared.Numbers.{Numbers}
+use Rattle.resequencer.specs.Numbers.{numbersOf}
 use Rattle.resequencer_bytes.specs.Stored.{stateIn}
+use Rattle.resequencer_bytes.specs.Parts.{ticketsIn}
 
 -- eight bytes, place by place
 pub eight-places : (b : List ℕ) → length b ≡ 8
@@ -35,24 +36,13 @@ two-places b i h =
     ap (take 2) (drop-cons b (2 * i) 0 (omega arith) ∙ ap (λ (l : List ℕ). getD b (2 * i) 0 ∷ l) (drop-cons b (suc (2 * i)) 0 (omega arith))) in
     sym (ap (λ (n : ℕ). littleOf (take 2 (drop n b))) j ∙ ap littleOf (two ∙ ap (λ (n : ℕ). getD b (2 * i) 0 ∷ getD b n 0 ∷ []) k))
 
-pub tickets-from : (b : List ℕ) → listFrom 0 64 (ticketAt b) ≡ littleList 2 64 b
+-- a ticket by its two bytes
+pub pair-ticket : (b : List ℕ) (k r : ℕ) → length b ≡ 128 → k < 64 → r ≡ littleOf (getD b (2 * k) 0 ∷ getD b (2 * k + 1) 0 ∷ []) → r ≡ getD (ticketsIn b) k 0
 unfolding ticketAt
-tickets-from b = sym (is-from 64 (littleList 2 64 b) (ticketAt b) (length-list 2 64 b) (λ i h. list-at 2 64 b i h))
+pair-ticket b k r l h e = e ∙ two-places b k (omega arith) ∙ sym (list-at 2 64 b k h)
 
--- a turn of the loop
-pub ticket-next : (b tickets : List ℕ) (i r : ℕ) → 2 * i + 1 < length b → tickets ≡ filled 64 (ticketAt b) i → r ≡ littleOf (getD b (2 * i) 0 ∷ getD b (2 * i + 1) 0 ∷ [])
-    → set tickets i r ≡ filled 64 (ticketAt b) (i + 1)
-ticket-next b tickets i r h e q =
-    ap (λ (l : List ℕ). set l i r) e ∙ ap (set (filled 64 (ticketAt b) i) i) (q ∙ two-places b i h) ∙ fill-next 64 (ticketAt b) i
-
--- the fields make the state
-pub read-state : (b : List ℕ) (held clocks : ℕ) (tickets : List ℕ) → length b ≡ 146 → held ≡ littleOf (take 8 (drop 2 b)) → clocks ≡ littleOf (take 8 (drop 10 b))
-    → tickets ≡ littleList 2 64 (take 128 (drop 18 b))
-    → _≡_ {A = Resequencer} (record { nesn = link (getD b 0 0); hsnr = link (getD b 1 0); held = held; clocks = clocks; tickets = tickets }) (stateIn b)
+-- the fields make the numbers
+pub read-numbers : (b : List ℕ) (held clocks : ℕ) → held ≡ littleOf (take 8 (drop 2 b)) → clocks ≡ littleOf (take 8 (drop 10 b))
+    → _≡_ {A = Numbers} (record { nesn = link (getD b 0 0); hsnr = link (getD b 1 0); held = held; clocks = clocks }) (numbersOf (stateIn b))
 unfolding stateIn
-read-state b held clocks tickets l h c t =
-    let all : take 128 (drop 18 b) ≡ drop 18 b = take-all 128 (drop 18 b) (omega (arith, length-drop 18 b)) in
-    ap₂ (λ (x y : ℕ). state x y tickets) h c ∙ ap (state (littleOf (take 8 (drop 2 b))) (littleOf (take 8 (drop 10 b)))) (t ∙ ap (littleList 2 64) all)
-  where
-    state : ℕ → ℕ → List ℕ → Resequencer
-    state x y z = record { nesn = link (getD b 0 0); hsnr = link (getD b 1 0); held = x; clocks = y; tickets = z }
+read-numbers b held clocks h c = ap₂ (λ (x y : ℕ). record { nesn = link (getD b 0 0); hsnr = link (getD b 1 0); held = x; clocks = y }) h c

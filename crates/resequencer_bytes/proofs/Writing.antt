@@ -1,52 +1,34 @@
--- A state written to its bytes, part by part.
+-- A state written over its bytes, part by part: its numbers, its tickets.
 -- Assumes nothing.
 use mathlib.Core.Path.{_≡_, refl, sym, ap, ap₂, _∙_}
-use mathlib.Core.List.{List, [], _∷_, _++_, append-nil}
-use Prim.Native.Nat.{ℕ, suc, _+_, _*_, _%_, _≤_, _<_}
+use mathlib.Core.List.{List, [], _∷_, _++_, append-assoc, append-nil}
+use Prim.Native.Nat.{ℕ, _+_, _*_, _%_, _≤_, _<_}
 use native.Mathlib.Numerals.{add-one}
 use native.Mathlib.Omega.{arith}
-use lib.ListN.{length, getD, set, take, drop, drop-of-length-le}
-use lib.Seq.{take-at, take-all, drop-cons, paste, paste-zero, paste-suc}
+use lib.ListN.{length, getD, set, take, drop, replicate, length-append, length-drop, length-replicate, getD-replicate, take-append-drop, drop-of-length-le}
+use lib.Seq.{drop-at, take-all, length-take-le, paste, paste-zero, paste-suc}
 use Rattle.little.specs.Little.{littleBytes, listBytes}
-use Rattle.little.proofs.Little.{length-bytes, length-listBytes}
-use Rattle.little.proofs.Places.{drop-listBytes, paste-more}
+use Rattle.little.specs.Law.{Below}
+use Rattle.little.proofs.Little.{length-list, length-listBytes, list-written-back, below-drop}
+use Rattle.little.proofs.Places.{paste-more, paste-behind, paste-number}
 use Rattle.resequencer.specs.declared.Resequencer.{Resequencer}
+use Rattle.resequencer.specs.declared.Numbers.{Numbers}
+use Rattle.resequencer.specs.Numbers.{numbersOf}
+use Rattle.resequencer.specs.Parts.{ticketsLeft}
+use Rattle.resequencer.proofs.Passing.{left-none, left-more}
+use Rattle.lists.proofs.Lists.{length-from}
 use Rattle.resequencer_bytes.specs.Stored.{stateBytes}
+use Rattle.resequencer_bytes.specs.Parts.{ticketsIn, numbersBytes, withNumbers, withTickets}
 
--- ---- a copy from the front
+-- ---- the numbers
 
-pub copy-next : (d s : List ℕ) (i : ℕ) → i < length d → i < length s → set (paste d 0 s i) i (getD s i 0) ≡ paste d 0 s (i + 1)
-copy-next d s i hd hs =
-    let z : i ≡ 0 + i = omega arith in
-    ap (λ (j : ℕ). set (paste d 0 s i) j (getD s i 0)) z ∙ paste-suc d 0 s i 0 (omega arith) hs ∙ ap (paste d 0 s) (sym (add-one i))
+numbers-length : (m : Numbers) → length (numbersBytes m) ≡ 18
+unfolding numbersBytes littleBytes
+numbers-length m = refl
 
--- all is written over
-pub copied : (d s : List ℕ) (n : ℕ) → length d ≡ n → length s ≡ n → paste d 0 s n ≡ s
-copied d s n hd hs =
-    let z : 0 + n ≡ n = omega arith in
-    ap₂ (λ (x y : List ℕ). x ++ y) (take-all n s (omega arith)) (ap (λ (j : ℕ). drop j d) z ∙ drop-of-length-le d {i = n} (omega arith)) ∙ append-nil s
-
--- ---- the tickets
-
--- the bytes of ticket i follow those of the tickets before it
-pub ticket-more : (d ts : List ℕ) (i : ℕ) → i < length ts → 18 ≤ length d
-    → paste (paste d 18 (listBytes 2 ts) (2 * i)) (18 + 2 * i) (littleBytes 2 (getD ts i 0)) 2 ≡ paste d 18 (listBytes 2 ts) (2 * (i + 1))
-ticket-more d ts i h k =
-    let s : List ℕ = listBytes 2 ts in
-    let j : 2 * i ≡ i * 2 = omega arith in
-    let n : 2 * i + 2 ≡ 2 * (i + 1) = omega arith in
-    let from : drop (2 * i) s ≡ littleBytes 2 (getD ts i 0) ++ listBytes 2 (drop (suc i) ts) =
-    ap (λ (m : ℕ). drop m s) j ∙ drop-listBytes 2 ts i (omega arith) ∙ ap (listBytes 2) (drop-cons ts i 0 h) ∙ unfold listBytes in refl in
-    paste-more d s (littleBytes 2 (getD ts i 0)) 18 (2 * i) 2 k (omega (arith, length-listBytes 2 ts))
-    (take-all 2 (littleBytes 2 (getD ts i 0)) (omega (arith, length-bytes 2 (getD ts i 0)))
-    ∙ sym (ap (take 2) from ∙ take-at (littleBytes 2 (getD ts i 0)) (listBytes 2 (drop (suc i) ts)) 2 (length-bytes 2 (getD ts i 0))))
-    ∙ ap (paste d 18 s) n
-
--- ---- a state
-
-pub state-length : (s : Resequencer) → length (s .tickets) ≡ 64 → length (stateBytes s) ≡ 146
-unfolding stateBytes littleBytes
-state-length s e = omega (arith, length-listBytes 2 (s .tickets))
+with-numbers-length : (b : List ℕ) (m : Numbers) → length b ≡ 146 → length (withNumbers b m) ≡ 146
+unfolding withNumbers
+with-numbers-length b m l = omega (arith, length-append (numbersBytes m) (drop 18 b), numbers-length m, length-drop 18 b)
 
 -- a part more: t stands where m bytes of the whole begin
 part : (b x y s t : List ℕ) (n m : ℕ) → n ≤ length s → x ≡ paste b 0 s n → y ≡ paste x n t m → take m t ≡ take m (drop n s) → y ≡ paste b 0 s (n + m)
@@ -60,20 +42,95 @@ byte x h =
     let e : x % 256 ≡ x = omega arith in
     ap (λ (y : ℕ). y ∷ []) e
 
--- head and tickets written one after the other
-pub state-put : (s : Resequencer) (b b1 b2 b3 b4 b5 : List ℕ) → length b ≡ 146 → length (s .tickets) ≡ 64 → s .nesn .0 < 256 → s .hsnr .0 < 256
-    → b1 ≡ paste b 0 (littleBytes 1 (s .nesn .0)) 1
-    → b2 ≡ paste b1 1 (littleBytes 1 (s .hsnr .0)) 1
-    → b3 ≡ paste b2 2 (littleBytes 8 (s .held)) 8
-    → b4 ≡ paste b3 10 (littleBytes 8 (s .clocks)) 8
-    → b5 ≡ paste b4 18 (listBytes 2 (s .tickets)) 128
-    → b5 ≡ stateBytes s
-unfolding stateBytes littleBytes
-state-put s b b1 b2 b3 b4 b5 lb lt n h e1 e2 e3 e4 e5 =
-    let l = state-length s lt in
-    let p0 = paste-zero b 0 (stateBytes s) in
-    let p1 = part b b b1 (stateBytes s) (littleBytes 1 (s .nesn .0)) 0 1 (omega arith) p0 e1 (byte (s .nesn .0) n) in
-    let p2 = part b b1 b2 (stateBytes s) (littleBytes 1 (s .hsnr .0)) 1 1 (omega arith) p1 e2 (byte (s .hsnr .0) h) in
-    let p3 = part b b2 b3 (stateBytes s) (littleBytes 8 (s .held)) 2 8 (omega arith) p2 e3 refl in
-    let p4 = part b b3 b4 (stateBytes s) (littleBytes 8 (s .clocks)) 10 8 (omega arith) p3 e4 refl in
-    part b b4 b5 (stateBytes s) (listBytes 2 (s .tickets)) 18 128 (omega arith) p4 e5 refl ∙ copied b (stateBytes s) 146 lb l
+-- the four numbers written one after the other
+pub numbers-put : (m : Numbers) (b b1 b2 b3 b4 : List ℕ) → length b ≡ 146 → m .nesn .0 < 256 → m .hsnr .0 < 256
+    → b1 ≡ paste b 0 (littleBytes 1 (m .nesn .0)) 1
+    → b2 ≡ paste b1 1 (littleBytes 1 (m .hsnr .0)) 1
+    → b3 ≡ paste b2 2 (littleBytes 8 (m .held)) 8
+    → b4 ≡ paste b3 10 (littleBytes 8 (m .clocks)) 8
+    → b4 ≡ withNumbers b m
+unfolding withNumbers numbersBytes littleBytes
+numbers-put m b b1 b2 b3 b4 l n h e1 e2 e3 e4 =
+    let w : List ℕ = withNumbers b m in
+    let lw : length (withNumbers b m) ≡ 146 = with-numbers-length b m l in
+    let p0 = paste-zero b 0 w in
+    let p1 = part b b b1 w (littleBytes 1 (m .nesn .0)) 0 1 (omega arith) p0 e1 (byte (m .nesn .0) n) in
+    let p2 = part b b1 b2 w (littleBytes 1 (m .hsnr .0)) 1 1 (omega arith) p1 e2 (byte (m .hsnr .0) h) in
+    let p3 = part b b2 b3 w (littleBytes 8 (m .held)) 2 8 (omega arith) p2 e3 refl in
+    part b b3 b4 w (littleBytes 8 (m .clocks)) 10 8 (omega arith) p3 e4 refl
+
+-- ---- the tickets
+
+module _ (b ts : List ℕ) (l : length b ≡ 146) where
+  front : length (take 18 b) ≡ 18
+  front = length-take-le 18 b (omega arith)
+
+  tickets-drop : drop 18 (withTickets b ts) ≡ listBytes 2 ts
+  unfolding withTickets
+  tickets-drop = drop-at (take 18 b) (listBytes 2 ts) 18 front
+
+  with-tickets-length : length ts ≡ 64 → length (withTickets b ts) ≡ 146
+  unfolding withTickets
+  with-tickets-length e = omega (arith, length-append (take 18 b) (listBytes 2 ts), front, length-listBytes 2 ts)
+
+  -- the ticket of number k written
+  pub ticket-put : (k x : ℕ) → k < length ts → paste (withTickets b ts) (18 + 2 * k) (littleBytes 2 x) 2 ≡ withTickets b (set ts k x)
+  unfolding withTickets
+  ticket-put k x h =
+      let e : 18 + 2 * k ≡ length (take 18 b) + k * 2 = omega (arith, front) in
+      ap (λ (n : ℕ). paste (take 18 b ++ listBytes 2 ts) n (littleBytes 2 x) 2) e
+      ∙ paste-behind (take 18 b) (listBytes 2 ts) (littleBytes 2 x) (k * 2) 2
+      ∙ ap (λ (r : List ℕ). take 18 b ++ r) (paste-number 2 ts k x h)
+
+module _ (b : List ℕ) (l : length b ≡ 146) (low : Below 256 b) where
+  pub tickets-same : b ≡ withTickets b (ticketsIn (drop 18 b))
+  unfolding withTickets
+  tickets-same =
+      sym (ap (λ (r : List ℕ). take 18 b ++ r) (list-written-back 2 64 (drop 18 b) (omega (arith, length-drop 18 b)) (below-drop 256 18 b low)) ∙ take-append-drop 18 b)
+
+  -- the loop that clears tickets
+  abbrev left : ℕ → ℕ → List ℕ
+  left nesn i = ticketsLeft (ticketsIn (drop 18 b)) nesn i
+
+  left-long : (nesn i : ℕ) → length (left nesn i) ≡ 64
+  unfolding ticketsLeft
+  left-long nesn i = length-from 0 64 _
+
+  pub clear-starts : (nesn : ℕ) → b ≡ withTickets b (left nesn 0)
+  clear-starts nesn = tickets-same ∙ ap (withTickets b) (left-none nesn (ticketsIn (drop 18 b)) 0 (length-list 2 64 (drop 18 b)) refl)
+
+  pub clear-turns : (state x : List ℕ) (nesn i number : ℕ) → i < 64 → nesn < 64 → number ≡ (nesn + i) % 64 → state ≡ withTickets b (left nesn i)
+      → x ≡ paste state (18 + 2 * number) (littleBytes 2 0) 2 → (length x ≡ 146) × (x ≡ withTickets b (left nesn (i + 1)))
+  clear-turns state x nesn i number h n q e p =
+      let y : x ≡ withTickets b (left nesn (i + 1)) =
+      p ∙ ap (λ (s : List ℕ). paste s (18 + 2 * number) (littleBytes 2 0) 2) e ∙ ticket-put b (left nesn i) l number 0 (omega (arith, left-long nesn i))
+      ∙ ap (withTickets b) (left-more nesn (ticketsIn (drop 18 b)) (left nesn i) i number h refl q) in
+      (ap length y ∙ with-tickets-length b (left nesn (i + 1)) l (left-long nesn (i + 1)), y)
+
+-- ---- the whole
+
+-- other tickets and other numbers make another state
+pub state-made : (b x : List ℕ) (s : Resequencer) → length b ≡ 146 → x ≡ withTickets b (s .tickets) → withNumbers x (numbersOf s) ≡ stateBytes s
+unfolding withNumbers numbersBytes stateBytes
+state-made b x s l e =
+    ap (λ (r : List ℕ). numbersBytes (numbersOf s) ++ r) (ap (drop 18) e ∙ tickets-drop b (s .tickets) l)
+    ∙ ap (λ (r : List ℕ). s .nesn .0 ∷ s .hsnr .0 ∷ r) (append-assoc (littleBytes 8 (s .held)) (littleBytes 8 (s .clocks)) (listBytes 2 (s .tickets)))
+
+-- ---- memory cleared from the front: i of its n places are 0
+
+pub clear-next : (o x : List ℕ) (n i : ℕ) → length o ≡ n → i < n → x ≡ paste o 0 (replicate n 0) i → set x i 0 ≡ paste o 0 (replicate n 0) (i + 1)
+clear-next o x n i l h e =
+    let z : i ≡ 0 + i = omega arith in
+    let r : length (replicate {A = ℕ} n 0) ≡ n = length-replicate n 0 in
+    ap₂ (λ (y : List ℕ) (v : ℕ). set y i v) e (sym (getD-replicate n i 0 0 h))
+    ∙ ap (λ (j : ℕ). set (paste o 0 (replicate n 0) i) j (getD (replicate n 0) i 0)) z
+    ∙ paste-suc o 0 (replicate n 0) i 0 (omega arith) (omega arith)
+    ∙ ap (paste o 0 (replicate n 0)) (sym (add-one i))
+
+pub clear-end : (o x : List ℕ) (n i : ℕ) → length o ≡ n → i ≡ n → x ≡ paste o 0 (replicate n 0) i → x ≡ replicate n 0
+clear-end o x n i l z e =
+    let w : 0 + n ≡ n = omega arith in
+    let r : length (replicate {A = ℕ} n 0) ≡ n = length-replicate n 0 in
+    e ∙ ap (paste o 0 (replicate n 0)) z
+    ∙ ap₂ (λ (a b : List ℕ). a ++ b) (take-all n (replicate n 0) (omega arith)) (ap (λ (j : ℕ). drop j o) w ∙ drop-of-length-le o {i = n} (omega arith))
+    ∙ append-nil (replicate n 0)

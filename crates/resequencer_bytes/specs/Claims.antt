@@ -24,7 +24,7 @@ pub record StoredLaw : Type 0 where
 
 -- "A refusal returns its number, counts of 0, unused places 0 and the same state": document 01, "Refusal numbers". The refusal number is the
 -- code's lowest byte; on a refusal the code has nothing else, and no byte and no place for a ticket changes.
-pub record RefusalsWriteNothing : Type 0 where
+pub record RefusalsChangeNothing : Type 0 where
   pub arrival : (b out : List ℕ) (n ticket : ℕ) → Below 256 b → arriveCode b (length out) n ticket % 256 ≢ 0
       → (arriveCode b (length out) n ticket < 256)
       × (arriveBytes b (length out) n ticket ≡ b)

@@ -1,18 +1,23 @@
 // The resequencer's state in 146 bytes that the caller lends, for callers that are not written in Rattle. The calls are those of `resequencer`.
 ghost use mathlib.Core.Path.{_≡_};
 ghost use mathlib.Core.Bool.{cond};
-ghost use mathlib.Core.List.{[], _∷_};
-ghost use Prim.Native.Nat.{_+_, _≤_};
+ghost use mathlib.Core.List.{[], _∷_, _++_};
+ghost use Prim.Native.Nat.{_+_, _≤_, _<_};
 ghost use lib.Dec.{eqb};
-ghost use lib.ListN.{length, drop};
+ghost use lib.ListN.{length, drop, replicate};
 ghost use lib.Seq.{paste};
-ghost use Rattle.little.specs.Little.{littleOf, littleBytes, littleList, listBytes};
-ghost use Rattle.resequencer.specs.Events.{outcomeNumber};
+ghost use Rattle.little.specs.Little.{littleOf, littleBytes};
+ghost use Rattle.wordset.specs.Sets.{every};
+ghost use Rattle.resequencer.specs.Events.{outcomeNumber, places};
+ghost use Rattle.resequencer.specs.Parts.{ticketFits, ticketsLeft, arrivedTickets, ticketsFrom};
+ghost use Rattle.resequencer.specs.Numbers.{numbersOf, StepFits, stepTickets, stepState, stepAnswer};
 ghost use Rattle.resequencer_bytes.specs.Stored.{stateIn, stateBytes, outcomeKind, answerCode, arriveCode, arriveBytes, arriveTickets, clockEndCode, clockEndBytes, clockEndTickets, freshCode, freshBytes, orderCode};
-use resequencer::Answer;
+ghost use Rattle.resequencer_bytes.specs.Parts.{ticketsIn, withNumbers, withTickets};
+use resequencer::Numbers;
 use resequencer::Outcome;
-use resequencer::Resequencer;
+use resequencer::Step;
 use sequence::LinkNumber;
+use wordset::set64;
 
 // The number that two bytes write.
 fn pair(a: u8, b: u8) -> u16
@@ -52,36 +57,78 @@ fn word(bytes: &[u8]) -> u64
     )
 }
 
-// The tickets in their bytes.
-fn tickets_in(bytes: &[u8]) -> [u16; 64]
-    requires { ⌜ length (now bytes) ≡ 128 ⌝ }
-    ensures { λ r. ⌜ r ≡ littleList 2 64 (now (bytes .entry)) ⌝ }
+// The numbers of a state in its bytes.
+fn numbers_in(state: &[u8]) -> Numbers
+    requires { ⌜ length (now state) ≡ 146 ⌝ }
+    ensures { λ r. ⌜ r ≡ numbersOf (stateIn (now (state .entry))) ⌝ }
 {
-    let mut tickets = [0u16; 64];
-    let mut i: usize = 0;
-    while i < 64 {
-        tickets[i] = pair(bytes[2 * i], bytes[2 * i + 1]);
-        i += 1;
-    }
-    tickets
-}
-
-// The state in its bytes.
-fn state_in(bytes: &[u8]) -> Resequencer
-    requires { ⌜ length (now bytes) ≡ 146 ⌝ }
-    ensures { λ r. ⌜ r ≡ stateIn (now (bytes .entry)) ⌝ }
-{
-    let nesn = bytes[0];
-    let hsnr = bytes[1];
-    let held = word(&bytes[2..10]);
-    let clocks = word(&bytes[10..18]);
-    let tickets = tickets_in(&bytes[18..146]);
-    Resequencer {
+    let nesn = state[0];
+    let hsnr = state[1];
+    let held = word(&state[2..10]);
+    let clocks = word(&state[10..18]);
+    Numbers {
         nesn: LinkNumber(nesn),
         hsnr: LinkNumber(hsnr),
         held: held,
         clocks: clocks,
-        tickets: tickets,
+    }
+}
+
+// The ones of stray tickets, those of numbers not held, with the tickets of the eight numbers from p on; a machine with wide words does eight at
+// once.
+fn gather_eight(stray: u16, held: u64, tickets: &[u8], p: usize) -> u16
+    requires { ⌜ (length (now tickets) ≡ 128) × ((p ≤ 56) × (eqb stray 0 ≡ every p (ticketFits held (ticketsIn (now tickets))))) ⌝ }
+    ensures { λ r. ⌜ eqb r 0 ≡ every (p + 8) (ticketFits held (ticketsIn (now (tickets .entry)))) ⌝ }
+{
+    let eight = ((held >> p) % 256) as u16;
+    let mut ones = stray;
+    let mut j: usize = 0;
+    while j < 8 {
+        let at = 2 * (p + j);
+        let ticket = pair(tickets[at], tickets[at + 1]);
+        ones = resequencer::gather_stray(ones, (eight >> j) & 1 == 1, ticket);
+        j += 1;
+    }
+    ones
+}
+
+// Whether the tickets of numbers not held are all 0, whatever is held.
+fn none_stray(held: u64, tickets: &[u8]) -> bool
+    requires { ⌜ length (now tickets) ≡ 128 ⌝ }
+    ensures { λ r. ⌜ r ≡ every 64 (ticketFits held (ticketsIn (now (tickets .entry)))) ⌝ }
+{
+    let mut stray: u16 = 0;
+    let mut p: usize = 0;
+    while p < 64 {
+        stray = gather_eight(stray, held, tickets, p);
+        p += 8;
+    }
+    stray == 0
+}
+
+// Whether the tickets are all 0, as they must be where nothing is held.
+fn all_zero(tickets: &[u8]) -> bool
+    requires { ⌜ length (now tickets) ≡ 128 ⌝ }
+    ensures { λ r. ⌜ r ≡ every 64 (ticketFits 0 (ticketsIn (now (tickets .entry)))) ⌝ }
+{
+    let mut stray: u16 = 0;
+    let mut i: usize = 0;
+    while i < 64 {
+        stray = resequencer::gather_stray(stray, false, pair(tickets[2 * i], tickets[2 * i + 1]));
+        i += 1;
+    }
+    stray == 0
+}
+
+// Whether the tickets of numbers not held are all 0; most of the time nothing is held, and that is asked at a quarter of the cost.
+fn tickets_in_order(held: u64, tickets: &[u8]) -> bool
+    requires { ⌜ length (now tickets) ≡ 128 ⌝ }
+    ensures { λ r. ⌜ r ≡ every 64 (ticketFits held (ticketsIn (now (tickets .entry)))) ⌝ }
+{
+    if held == 0 {
+        all_zero(tickets)
+    } else {
+        none_stray(held, tickets)
     }
 }
 
@@ -99,40 +146,109 @@ fn put(out: &mut [u8], at: usize, k: usize, n: u64)
     }
 }
 
-// Writes the tickets behind the head of a state.
-fn put_tickets(state: &mut [u8], tickets: [u16; 64])
+// Writes the numbers of a state.
+fn put_numbers(state: &mut [u8], numbers: Numbers)
     requires { ⌜ length (now state) ≡ 146 ⌝ }
-    ensures { λ _. ⌜ now (state .exit) ≡ paste (now (state .entry)) 18 (listBytes 2 tickets) 128 ⌝ }
+    ensures { λ _. ⌜ now (state .exit) ≡ withNumbers (now (state .entry)) numbers ⌝ }
 {
-    let mut i: usize = 0;
-    while i < 64 {
-        put(state, 18 + 2 * i, 2, tickets[i] as u64);
+    put(state, 0, 1, numbers.nesn.0 as u64);
+    put(state, 1, 1, numbers.hsnr.0 as u64);
+    put(state, 2, 8, numbers.held);
+    put(state, 10, 8, numbers.clocks);
+}
+
+// Puts 0 for the tickets of the m numbers from NESN on.
+fn clear_passed(state: &mut [u8], nesn: u8, m: u8)
+    requires { ⌜ (length (now state) ≡ 146) × ((nesn < 64) × (m < 64)) ⌝ }
+    ensures { λ _. ⌜ now (state .exit) ≡ withTickets (now (state .entry)) (ticketsLeft (ticketsIn (drop 18 (now (state .entry)))) nesn m) ⌝ }
+{
+    let mut i: u8 = 0;
+    while i < m {
+        let number = ((nesn + i) % 64) as usize;
+        put(state, 18 + 2 * number, 2, 0);
         i += 1;
     }
 }
 
-// Writes a state.
-fn put_state(out: &mut [u8], state: Resequencer)
-    requires { ⌜ length (now out) ≡ 146 ⌝ }
-    ensures { λ _. ⌜ now (out .exit) ≡ stateBytes state ⌝ }
-{
-    let tickets = state.tickets;
-    put(out, 0, 1, state.nesn.0 as u64);
-    put(out, 1, 1, state.hsnr.0 as u64);
-    put(out, 2, 8, state.held);
-    put(out, 10, 8, state.clocks);
-    put_tickets(out, tickets);
-}
-
-// Writes the tickets handed on.
-fn put_handed(out: &mut [u16], tickets: [u16; 32])
+// Puts 0 in every place for a ticket.
+fn clear_places(out: &mut [u16])
     requires { ⌜ length (now out) ≡ 32 ⌝ }
-    ensures { λ _. ⌜ now (out .exit) ≡ tickets ⌝ }
+    ensures { λ _. ⌜ now (out .exit) ≡ replicate 32 0 ⌝ }
 {
     let mut i: usize = 0;
     while i < 32 {
-        out[i] = tickets[i];
+        out[i] = 0;
         i += 1;
+    }
+}
+
+// Gathers into `out`, all 0 so far, the tickets of those numbers that are held among the m from the start on, in window order; where d is 1,
+// after the ticket of the packet that has just arrived. The answer is how many there are.
+fn gather_held(
+    out: &mut [u16],
+    held: u64,
+    tickets: &[u8],
+    start: u8,
+    d: u8,
+    ticket: u16,
+    m: u8,
+) -> u8
+    requires { ⌜ (now out ≡ replicate 32 0) × ((length (now tickets) ≡ 128) × ((start ≤ 64) × ((d ≤ 1) × ((d + m ≤ 32) × (d ≡ 0 → ticket ≡ 0))))) ⌝ }
+    ensures { λ r. ⌜ r ≡ length (arrivedTickets d ticket ++ ticketsFrom held (ticketsIn (now (tickets .entry))) start m) ⌝ }
+    ensures { λ _. ⌜ now (out .exit) ≡ places (arrivedTickets d ticket ++ ticketsFrom held (ticketsIn (now (tickets .entry))) start m) ⌝ }
+{
+    out[0] = ticket;
+    let mut count = d;
+    for i in 0..m {
+        let number = (start + i) % 64;
+        if set64::member(held, number) {
+            let from = 2 * (number as usize);
+            let to = count as usize;
+            out[to] = pair(tickets[from], tickets[from + 1]);
+            count += 1;
+        }
+    }
+    count
+}
+
+// Moves the tickets as a step of these numbers does: into the places, all 0 so far, or into the state. The answer is how many are handed on.
+fn move_tickets(
+    state: &mut [u8],
+    out: &mut [u16],
+    numbers: Numbers,
+    step: Step,
+    d: u8,
+    sn: u8,
+    ticket: u16,
+) -> u8
+    requires { ⌜ (length (now state) ≡ 146) × ((now out ≡ replicate 32 0) × ((numbers ≡ numbersOf (stateIn (now state))) × StepFits (numbers .nesn .0) step d sn ticket)) ⌝ }
+    ensures { λ r. ⌜ r ≡ length (stepTickets (stateIn (now (state .entry))) step d ticket) ⌝ }
+    ensures { λ _. ⌜ now (out .exit) ≡ places (stepTickets (stateIn (now (state .entry))) step d ticket) ⌝ }
+    ensures { λ _. ⌜ now (state .exit) ≡ withTickets (now (state .entry)) (stepState (stateIn (now (state .entry))) step sn ticket .tickets) ⌝ }
+{
+    let outcome = step.outcome;
+    let nesn = numbers.nesn.0;
+    match outcome {
+        Outcome::HandedOn => {
+            let count = gather_held(
+                out,
+                numbers.held,
+                &state[18..146],
+                nesn + d,
+                d,
+                ticket,
+                step.passed - d,
+            );
+            clear_passed(state, nesn, step.passed);
+            count
+        }
+        Outcome::Held => {
+            put(state, 18 + 2 * (sn as usize), 2, ticket as u64);
+            0
+        }
+        Outcome::Old => 0,
+        Outcome::Duplicate => 0,
+        Outcome::Refused(_why) => 0,
     }
 }
 
@@ -149,23 +265,31 @@ fn kind(outcome: Outcome) -> u32
     }
 }
 
-// Writes an answer, nothing where the call was refused, and tells it in one number.
-fn put_answer(state: &mut [u8], tickets: &mut [u16], answer: Answer) -> u32
-    requires { ⌜ (length (now state) ≡ 146) × (length (now tickets) ≡ 32) ⌝ }
-    ensures { λ r. ⌜ r ≡ answerCode answer ⌝ }
-    ensures { λ _. ⌜ now (state .exit) ≡ cond (eqb (outcomeNumber (answer .outcome)) 0) (stateBytes (answer .next)) (now (state .entry)) ⌝ }
-    ensures { λ _. ⌜ now (tickets .exit) ≡ cond (eqb (outcomeNumber (answer .outcome)) 0) (answer .tickets) (now (tickets .entry)) ⌝ }
+// Writes what a step of these numbers does, nothing where the call was refused, and tells it in one number.
+fn answer(
+    state: &mut [u8],
+    out: &mut [u16],
+    numbers: Numbers,
+    step: Step,
+    d: u8,
+    sn: u8,
+    ticket: u16,
+) -> u32
+    requires { ⌜ (length (now state) ≡ 146) × ((length (now out) ≡ 32) × ((numbers ≡ numbersOf (stateIn (now state))) × StepFits (numbers .nesn .0) step d sn ticket)) ⌝ }
+    ensures { λ r. ⌜ r ≡ answerCode (stepAnswer (stateIn (now (state .entry))) step d sn ticket) ⌝ }
+    ensures { λ _. ⌜ now (state .exit) ≡ cond (eqb (outcomeNumber (step .outcome)) 0) (stateBytes (stepState (stateIn (now (state .entry))) step sn ticket)) (now (state .entry)) ⌝ }
+    ensures { λ _. ⌜ now (out .exit) ≡ cond (eqb (outcomeNumber (step .outcome)) 0) (places (stepTickets (stateIn (now (state .entry))) step d ticket)) (now (out .entry)) ⌝ }
 {
-    let outcome = answer.outcome;
-    let next = answer.next;
-    let handed = answer.tickets;
+    let outcome = step.outcome;
     let number = outcome.number();
-    let code = number as u32 + 256 * kind(outcome) + 65536 * (answer.count as u32);
-    if number == 0 {
-        put_state(state, next);
-        put_handed(tickets, handed);
+    if number != 0 {
+        return number as u32;
     }
-    code
+    clear_places(out);
+    let count = move_tickets(state, out, numbers, step, d, sn, ticket);
+    let next = step.next;
+    put_numbers(state, next);
+    256 * kind(outcome) + 65536 * (count as u32)
 }
 
 // Makes the bytes a state to which nothing has come: 0, or 14 where they are not 146.
@@ -176,7 +300,11 @@ pub fn fresh(state: &mut [u8]) -> u32
     if state.len() != 146 {
         return 14;
     }
-    put_state(state, Resequencer::fresh());
+    let mut i: usize = 0;
+    while i < 146 {
+        state[i] = 0;
+        i += 1;
+    }
     0
 }
 
@@ -187,8 +315,12 @@ pub fn in_order(state: &[u8]) -> u32
     if state.len() != 146 {
         return 0;
     }
-    let stored = state_in(state);
-    if stored.in_order() { 1 } else { 0 }
+    let numbers = numbers_in(state);
+    if tickets_in_order(numbers.held, &state[18..146]) {
+        if numbers.in_order() { 1 } else { 0 }
+    } else {
+        0
+    }
 }
 
 // A packet arrives: the bytes become the state after it, the tickets that it lets go stand in the places, and the answer tells what became of it.
@@ -203,8 +335,10 @@ pub fn arrive(state: &mut [u8], tickets: &mut [u16], sn: u8, ticket: u16) -> u32
     if tickets.len() != 32 {
         return 14;
     }
-    let stored = state_in(state);
-    put_answer(state, tickets, stored.arrive(LinkNumber(sn), ticket))
+    let numbers = numbers_in(state);
+    let fits = tickets_in_order(numbers.held, &state[18..146]);
+    let step = numbers.arrive(fits, LinkNumber(sn));
+    answer(state, tickets, numbers, step, 1, sn, ticket)
 }
 
 // The clock of a number ends: the same for the tickets that this lets go.
@@ -219,6 +353,8 @@ pub fn clock_end(state: &mut [u8], tickets: &mut [u16], sn: u8) -> u32
     if tickets.len() != 32 {
         return 14;
     }
-    let stored = state_in(state);
-    put_answer(state, tickets, stored.clock_end(LinkNumber(sn)))
+    let numbers = numbers_in(state);
+    let fits = tickets_in_order(numbers.held, &state[18..146]);
+    let step = numbers.clock_end(fits, LinkNumber(sn));
+    answer(state, tickets, numbers, step, 0, sn, 0)
 }

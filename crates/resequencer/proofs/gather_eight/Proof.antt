@@ -1,11 +1,16 @@
 -- `resequencer::gather_eight` meets its contract: after j turns the tickets of j numbers more are looked at.
 -- Assumes nothing.
-use mathlib.Core.Path.{_≡_, refl, subst}
+use mathlib.Core.Path.{_≡_, refl, ap, _∙_, subst}
+use mathlib.Core.Bool.{Bool}
 use Prim.Native.Nat.{ℕ, _+_, _-_, _/_, _%_, _^_, _≤_}
 use native.Mathlib.Omega.{arith}
+use borrow.Author.Needs.{needs}
+use lib.Bits.{bitAnd}
 use lib.Dec.{eqb}
+use Rattle.wordset.proofs.Words.{shifted-member}
+use lib.ListN.{getD}
 use Rattle.wordset.specs.Sets.{every}
-use Rattle.resequencer.specs.Parts.{ticketFits}
+use Rattle.resequencer.specs.Parts.{ticketFits, gatherStray}
 use Rattle.resequencer.proofs.Stray.{gather-turn}
 use Rattle.resequencer.proofs.gather_eight.Statement.{statement}
 use Rattle.resequencer.proofs.gather_eight.Tie as tie
@@ -23,8 +28,15 @@ loop-holds c =
 
 loop-again : tie.Need-loop-again Inv-loop μ-loop
 loop-again c =
-    let v = c .before .before .before .loop .inv in
-    (omega arith, (v .1 .0, gather-turn _ _ _ _ (c .before .before .before .loop .ones) _ (c .gather-stray .result) (c .before .before .loop-test .taken) (v .1 .0) (v .1 .1) (c .gather-stray .ensures)))
+    let l = c .before .before .before .loop in
+    let v = l .inv in (
+      omega arith,
+      (
+        v .1 .0,
+        gather-turn _ _ _ _ (l .ones) (c .before .before .before .before .args .held / 2 ^ c .before .before .before .before .args .p % 256) (c .gather-stray .result) (c .before .before .loop-test .taken) refl (v .1 .1)
+            (c .gather-stray .ensures ∙ ap (λ (b : Bool). gatherStray (l .ones) b (getD (c .before .before .before .before .args .tickets .now) (c .before .before .before .before .args .p + l .j) 0)) (ap (λ (w : ℕ). eqb (bitAnd (w / 2 ^ l .j) 1) 1) (v .1 .0) ∙ shifted-member (c .before .before .before .before .args .held / 2 ^ c .before .before .before .before .args .p % 256) (l .j))),
+      ),
+    )
 
 returns : tie.Need-returns Inv-loop μ-loop
 returns c =
@@ -44,7 +56,9 @@ gather-eight-spec =
     (λ c. omega arith)
     (λ c. omega arith)
     (λ c. omega arith)
-    (λ c κs. omega arith)
+    (λ c. omega arith)
+    (λ c. omega arith)
+    (λ c κs. search needs)
     (λ c. omega arith)
     (λ c. omega arith)
     loop-again

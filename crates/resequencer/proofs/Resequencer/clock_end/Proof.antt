@@ -1,28 +1,17 @@
--- `resequencer::Resequencer::clock_end` meets its contract: the verdict tells which case of `clockEndOf` holds.
+-- `resequencer::Resequencer::clock_end` meets its contract: the step that the numbers take tells the whole answer.
 -- Assumes nothing.
-use mathlib.Core.Path.{sym, _∙_}
 use borrow.Author.Needs.{needs}
-use Rattle.resequencer.proofs.Cases.{end-done, end-refused, end-passed}
+use Rattle.resequencer.proofs.Steps.{end-asks, end-told}
 use Rattle.resequencer.proofs.Resequencer.clock_end.Statement.{statement}
 use Rattle.resequencer.proofs.Resequencer.clock_end.Tie as tie
 
-take-clock-end-requires : tie.Need-take-clock-end-requires
-take-clock-end-requires c κs = end-passed _ _ (sym (c .before .before .check-clock-end .ensures) ∙ c .enum-told .given .1)
+answer-requires : tie.Need-answer-requires
+answer-requires c κs = let a = c .before .before .before .before .before .args in end-asks (a .self) _ _ (a .sn .0) 0 _ (c .before .before .before .numbers .ensures) (c .clock-end .ensures)
 
 returns : tie.Need-returns
-returns c = c .take-clock-end .ensures ∙ sym (end-done _ _ (sym (c .before .before .before .check-clock-end .ensures) ∙ c .before .enum-told .given .1))
-
-returns-2 : tie.Need-returns-2
-returns-2 c = c .plain .ensures ∙ sym (end-refused _ _ _ (sym (c .before .before .before .before .check-clock-end .ensures) ∙ c .before .before .verdict .given .1))
+returns c =
+    let a = c .before .before .before .before .before .before .args in
+    end-told (a .self) _ _ (a .sn .0) 0 _ (c .before .before .before .before .numbers .ensures) _ (c .before .before .tickets-in-order .ensures) (c .before .clock-end .ensures) (c .answer .ensures)
 
 pub clock-end-spec : {M : Type 1} → statement M
-clock-end-spec =
-    tie.close
-    (tie.spec
-    (λ c κs. search needs)
-    (λ c. search needs)
-    take-clock-end-requires
-    (λ c. search needs)
-    (λ c κs. search needs)
-    returns
-    returns-2)
+clock-end-spec = tie.close (tie.spec (λ c κs. search needs) (λ c κs. search needs) (λ c κs. search needs) answer-requires returns)
