@@ -450,8 +450,7 @@ impl Resequencer {
                 clear_passed(&mut tickets, start, step.passed);
             }
             Outcome::Held => {
-                let at = sn.0 as usize;
-                tickets[at] = ticket;
+                tickets[sn.0 as usize] = ticket;
             }
             Outcome::Old => {}
             Outcome::Duplicate => {}

@@ -19,7 +19,7 @@ use Rattle.resequencer.specs.declared.Outcome.{Outcome}
 use Rattle.resequencer.specs.declared.Outcome.the-variants.{Held, HandedOn, Old, Duplicate, Refused}
 use Rattle.resequencer.specs.declared.Answer.{Answer}
 use Rattle.resequencer.specs.Events.{outcomeNumber, plain, arriveOf, clockEndOf}
-use Rattle.resequencer.proofs.Refusing.{refusals-change-nothing}
+use Rattle.resequencer.proofs.Refusing.{refusals-change-nothing as calls-change-nothing}
 use Rattle.resequencer_bytes.specs.Stored.{isState, isCall, stateIn, stateBytes, outcomeKind, answerCode, codeBy, bytesBy, ticketsBy}
 use Rattle.resequencer_bytes.specs.Claims.{StoredLaw, RefusalsChangeNothing}
 use Rattle.resequencer_bytes.proofs.Stored.{state-back, written-back}
@@ -66,6 +66,6 @@ kept a b out low p = go (isCall b (length out)) refl
 
 pub refusals-change-nothing : RefusalsChangeNothing
 refusals-change-nothing = record {
-  arrival = λ b out n ticket low. kept (arriveOf (stateIn b) n ticket) b out low (refusals-change-nothing .arrival (stateIn b) n ticket);
-  clock-end = λ b out n low. kept (clockEndOf (stateIn b) n) b out low (refusals-change-nothing .clock-end (stateIn b) n);
+  arrival = λ b out n ticket low. kept (arriveOf (stateIn b) n ticket) b out low (calls-change-nothing .arrival (stateIn b) n ticket);
+  clock-end = λ b out n low. kept (clockEndOf (stateIn b) n) b out low (calls-change-nothing .clock-end (stateIn b) n);
 }
