@@ -1,6 +1,6 @@
 -- A frame is small, so that what an answer tells of it fits one number.
 -- Assumes nothing.
-use mathlib.Core.Path.{_≡_, refl, sym}
+use mathlib.Core.Path.{_≡_, refl}
 use mathlib.Core.List.{List}
 use Prim.Native.Nat.{ℕ, _+_, _≤_}
 use native.Mathlib.Omega.{arith}
@@ -8,7 +8,7 @@ use Rattle.refusal.specs.declared.Verdict.{Verdict}
 use Rattle.refusal.specs.declared.Verdict.the-variants.{Done, Refused}
 use Rattle.form.specs.declared.Form.{Form}
 use Rattle.form.specs.Forms.{segOf}
-use Rattle.form.specs.Segments.{padding, frameLength}
+use Rattle.form.specs.Segments.{frameLength}
 use Rattle.form.proofs.Forms.{segment-some, segment-few, most-range}
 use Rattle.form.proofs.Segments.{padding-below}
 use Rattle.codec.specs.declared.Written.the-variants.{Done as WrittenDone}

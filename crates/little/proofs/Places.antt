@@ -7,7 +7,7 @@ use native.Mathlib.Nat.{add-zero}
 use native.Mathlib.Numerals.{add-one}
 use native.Mathlib.Omega.{arith}
 use lib.ListN.{length, getD, set, take, drop, length-set}
-use lib.Seq.{take-all, take-append-add, drop-append-add, take-suc, take-add, take-at, drop-at, drop-cons, drop-drop, getD-drop, set-at, append-snoc, paste, paste-zero, paste-suc, take-paste, drop-paste}
+use lib.Seq.{take-all, take-append-add, drop-append-add, take-suc, take-add, drop-at, drop-cons, drop-drop, getD-drop, set-at, append-snoc, paste, paste-zero, paste-suc, take-paste, drop-paste}
 use Rattle.little.specs.Little.{littleOf, littleBytes, littleList, listBytes}
 use Rattle.little.proofs.Little.{length-bytes}
 

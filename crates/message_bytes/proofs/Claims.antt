@@ -2,7 +2,7 @@
 -- Assumes nothing.
 use mathlib.Core.Path.{_≡_, refl}
 use mathlib.Core.List.{List}
-use Prim.Native.Nat.{ℕ, _+_, _*_, _/_, _%_}
+use Prim.Native.Nat.{ℕ, _/_, _%_}
 use native.Mathlib.Omega.{arith}
 use Rattle.refusal.proofs.Numbers.{number-range}
 use Rattle.form.specs.declared.Form.{Form}
@@ -14,8 +14,8 @@ use Rattle.joining.specs.declared.Joined.{Joined}
 use Rattle.joining.specs.declared.Joined.the-variants.{Bytes, Refused as NotJoined}
 use Rattle.joining.specs.Joining.{joinedNumber, joinedBytes, joinOf}
 use Rattle.message_bytes.specs.Answers.{cutCode, joinedCode}
-use Rattle.message_bytes.specs.Claims.{CutParts, JoinParts, MessageBytesClaim}
-use Rattle.message_bytes.proofs.Sizes.{cut-few, join-few}
+use Rattle.message_bytes.specs.Claims.{CutParts, MessageBytesClaim}
+use Rattle.message_bytes.proofs.Sizes.{cut-few}
 
 -- of any cut that is as small as those that are made
 cut-number : (c : Cut) → cutCode c % 256 ≡ cutNumber c

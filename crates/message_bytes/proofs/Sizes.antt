@@ -12,7 +12,7 @@ use Rattle.refusal.specs.declared.Verdict.the-variants.{Done, Refused}
 use Rattle.lists.specs.Frames.{bytesIn, partsOf}
 use Rattle.form.specs.declared.Form.{Form}
 use Rattle.form.specs.Forms.{segOf, formGood}
-use Rattle.form.specs.Segments.{padding, frameLength}
+use Rattle.form.specs.Segments.{frameLength}
 use Rattle.form.proofs.Forms.{segment-some, segment-few}
 use Rattle.form.proofs.Segments.{padding-below}
 use Rattle.cutting.specs.declared.Start.{Start}

@@ -9,9 +9,7 @@ use native.Mathlib.Omega.{arith}
 use lib.Dec.{lit<}
 use lib.ListN.{length}
 use borrow.Author.Tests.{eqb-true, ne-eqb}
-use Rattle.refusal.specs.declared.Refusal.{Refusal}
 use Rattle.refusal.proofs.Numbers.{number-range}
-use Rattle.refusal.specs.Numbers.{numberOf}
 use Rattle.refusal.proofs.Checks.{both-true}
 use Rattle.little.specs.Law.{Below}
 use Rattle.resequencer.specs.declared.Resequencer.{Resequencer}

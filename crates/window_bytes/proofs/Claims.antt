@@ -9,11 +9,9 @@ use Prim.Native.Nat.{ℕ, _≤_}
 use native.Mathlib.Omega.{arith}
 use lib.Dec.{eqb, lit≤}
 use lib.ListN.{length}
-use Rattle.refusal.specs.declared.Refusal.{Refusal}
-use Rattle.refusal.specs.declared.Refusal.the-variants.{NotInOrder}
 use Rattle.refusal.specs.declared.Verdict.{Verdict}
 use Rattle.refusal.specs.declared.Verdict.the-variants.{Done, Refused}
-use Rattle.refusal.specs.Numbers.{numberOf, verdictNumber}
+use Rattle.refusal.specs.Numbers.{verdictNumber}
 use Rattle.refusal.proofs.Numbers.{number-range}
 use Rattle.sender.specs.declared.Grant.{Grant}
 use Rattle.sender.specs.declared.Grant.the-variants.{Granted, Refused as NotGranted}

@@ -1,14 +1,12 @@
 -- `frame_bytes::read` meets its contract: the form is that of the definition, and a packet that is read is small.
 -- Assumes nothing.
-use mathlib.Core.Path.{_≡_, sym, ap, subst, _∙_}
-use Prim.Native.Nat.{ℕ, _+_, _≤_}
+use mathlib.Core.Path.{_≡_, sym, ap, _∙_}
+use Prim.Native.Nat.{_+_, _≤_}
 use native.Mathlib.Omega.{arith}
 use lib.ListN.{length}
 use borrow.Author.Needs.{needs}
 use Rattle.form.specs.declared.Form.{Form}
-use Rattle.frame.specs.declared.Read.{Read}
 use Rattle.frame.specs.Reading.{readOf}
-use Rattle.frame_bytes.specs.Stored.{readCodeBy, readBytesBy}
 use Rattle.frame_bytes.proofs.Answers.{read-code, read-bytes, unread-code, unread-bytes}
 use Rattle.frame_bytes.proofs.Sizes.{read-few}
 use Rattle.frame_bytes.proofs.read.Statement.{statement}
@@ -19,14 +17,9 @@ returns c =
     let a = c .before .before .before .args in
     (unread-code (a .form) (a .frame .now) (a .packet .now) (c .if1 .taken), unread-bytes (a .form) (a .frame .now) (a .packet .now) (c .if1 .taken))
 
-few : tie.Need-mul-result
-few c = omega (arith, read-few (c .before .before .before .before .before .before .before .before .from-number .result) (c .before .before .before .before .before .before .before .before .before .before .before .before .args .frame .now) _ _ (sym (c .before .before .before .before .before .before .before .read-frame .ensures) ∙ c .before .before .before .before .before .read .given .1))
-
-few-2 : tie.Need-add-result
-few-2 c = omega (arith, read-few (c .before .before .before .before .before .before .before .before .from-number .result) (c .before .before .before .before .before .before .before .before .before .before .before .before .args .frame .now) _ _ (sym (c .before .before .before .before .before .before .before .read-frame .ensures) ∙ c .before .before .before .before .before .read .given .1))
-
-few-3 : tie.Need-mul-result-2
-few-3 c = omega (arith, read-few (c .before .before .before .before .before .before .before .before .from-number .result) (c .before .before .before .before .before .before .before .before .before .before .before .before .args .frame .now) _ _ (sym (c .before .before .before .before .before .before .before .read-frame .ensures) ∙ c .before .before .before .before .before .read .given .1))
+-- what was read is small
+small : (c : tie.After-slice-known2) → c .before .before .before .before .before .read .given .0 .1 .0 .at + c .before .before .before .before .before .read .given .0 .1 .0 .len ≤ 160
+small c = read-few (c .before .before .before .before .before .before .before .before .from-number .result) (c .before .before .before .before .before .before .before .before .before .before .before .before .args .frame .now) _ _ (sym (c .before .before .before .before .before .before .before .read-frame .ensures) ∙ c .before .before .before .before .before .read .given .1)
 
 returns-2 : tie.Need-returns-2
 returns-2 c =
@@ -52,9 +45,7 @@ read-spec =
     (λ c κs. search needs) (λ c κs. search needs)
     (λ c. search needs)
     (λ c κs. search needs)
-    few
-    few-2
-    few-3
+    (λ c. omega (arith, small c)) (λ c. omega (arith, small c)) (λ c. omega (arith, small c))
     (λ c. search needs)
     (λ c κs. search needs)
     (λ c. search needs) (λ c. search needs)

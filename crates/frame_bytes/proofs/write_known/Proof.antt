@@ -4,7 +4,6 @@ use mathlib.Core.Path.{sym, ap, _∙_}
 use native.Mathlib.Omega.{arith}
 use lib.ListN.{length}
 use borrow.Author.Needs.{needs}
-use Rattle.codec.specs.declared.Written.{Written}
 use Rattle.frame_bytes.specs.Stored.{writtenCode}
 use Rattle.frame_bytes.proofs.Answers.{done-code, refused-code, known-code, known-bytes}
 use Rattle.frame_bytes.proofs.Sizes.{written-few}

@@ -1,7 +1,6 @@
 -- `message_bytes::cut` meets its contract: the form is that of the definition, and what is cut is small.
 -- Assumes nothing.
 use mathlib.Core.Path.{_≡_, sym, ap, _∙_}
-use mathlib.Core.List.{List}
 use Prim.Native.Nat.{ℕ, _+_, _*_, _≤_}
 use native.Mathlib.Omega.{arith}
 use lib.ListN.{length}
@@ -13,32 +12,12 @@ use Rattle.message_bytes.proofs.Sizes.{cut-few}
 use Rattle.message_bytes.proofs.cut.Statement.{statement}
 use Rattle.message_bytes.proofs.cut.Tie as tie
 
-frames-few : tie.Need-mul-result
-frames-few c =
+-- what was cut is small
+small : (c : tie.After-known-told) → (c .before .cut .given .0 .0 ≤ 4097) × (c .before .cut .given .0 .1 .0 ≤ 800000)
+small c =
     let a = c .before .before .before .before .before .before .before .before .before .before .before .before .before .before .args in
-    omega (
-      arith,
-      cut-few (c .before .before .before .before .before .before .before .before .before .before .from-number .result) (startAt (a .sn) (a .ps) (a .pr) (a .ch)) (a .message .now) (length (a .out .now)) (length (a .lengths .now)) _ _
-          (sym (c .before .before .before .before .before .before .before .cut-message .ensures .0) ∙ c .before .cut .given .1),
-    )
-
-bytes-few : tie.Need-mul-result-2
-bytes-few c =
-    let a = c .before .before .before .before .before .before .before .before .before .before .before .before .before .before .args in
-    omega (
-      arith,
-      cut-few (c .before .before .before .before .before .before .before .before .before .before .from-number .result) (startAt (a .sn) (a .ps) (a .pr) (a .ch)) (a .message .now) (length (a .out .now)) (length (a .lengths .now)) _ _
-          (sym (c .before .before .before .before .before .before .before .cut-message .ensures .0) ∙ c .before .cut .given .1),
-    )
-
-sum-few : tie.Need-add-result
-sum-few c =
-    let a = c .before .before .before .before .before .before .before .before .before .before .before .before .before .before .args in
-    omega (
-      arith,
-      cut-few (c .before .before .before .before .before .before .before .before .before .before .from-number .result) (startAt (a .sn) (a .ps) (a .pr) (a .ch)) (a .message .now) (length (a .out .now)) (length (a .lengths .now)) _ _
-          (sym (c .before .before .before .before .before .before .before .cut-message .ensures .0) ∙ c .before .cut .given .1),
-    )
+    cut-few (c .before .before .before .before .before .before .before .before .before .before .from-number .result) (startAt (a .sn) (a .ps) (a .pr) (a .ch)) (a .message .now) (length (a .out .now)) (length (a .lengths .now)) _ _
+    (sym (c .before .before .before .before .before .before .before .cut-message .ensures .0) ∙ c .before .cut .given .1)
 
 returns : tie.Need-returns
 returns c =
@@ -83,9 +62,7 @@ cut-spec =
     tie.close
     (tie.spec
     (λ c κs. search needs) (λ c κs. search needs) (λ c. search needs)
-    frames-few
-    bytes-few
-    sum-few
+    (λ c. omega (arith, small c)) (λ c. omega (arith, small c)) (λ c. omega (arith, small c))
     (λ c. search needs) (λ c κs. search needs) (λ c. search needs) (λ c. search needs) (λ c. search needs)
     returns
     (λ c. search needs) (λ c. search needs)
