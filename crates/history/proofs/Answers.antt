@@ -1,11 +1,13 @@
 -- The cases of an arrival and of a clock end in a state in good order, as equations, and what an answer hands on.
 -- Assumes nothing.
 use mathlib.Core.Path.{_≡_, refl, sym, ap, _∙_}
-use mathlib.Core.Bool.{true, false}
+use mathlib.Core.Bool.{Bool, true, false, cond}
 use mathlib.Core.List.{List, []}
 use mathlib.Core.Logic.{_⊎_, inl, inr}
 use Prim.Native.Nat.{ℕ, _-_, _≤_, _<_}
+use native.Mathlib.Decide.{decLt}
 use native.Mathlib.Omega.{arith}
+use lib.Dec.{ltb, eqb}
 use lib.ListN.{length, replicate}
 use lib.Seq.{take-append-seam}
 use borrow.Author.Tests.{lt-ltb, le-ltb}
@@ -42,6 +44,15 @@ next-handOn ts s = refl
 
 -- ---- arrivals
 
+-- none of the cases of an arrival that is taken is a refusal
+never-refused : (s : Resequencer) (n ticket : ℕ) (why : Refusal) (old here now : Bool)
+    → cond old (plain Old s) (cond here (plain Duplicate s) (cond now (handOnRun s ticket) (plain Held (hold s n ticket)))) .outcome ≡ NotTaken why → ⊥
+unfolding plain handOnRun handOn
+never-refused s n ticket why true here now q = let z : _≡_ {A = ℕ} 0 1 = cc in absurd (omega arith)
+never-refused s n ticket why false true now q = let z : _≡_ {A = ℕ} 0 1 = cc in absurd (omega arith)
+never-refused s n ticket why false false true q = let z : _≡_ {A = ℕ} 0 1 = cc in absurd (omega arith)
+never-refused s n ticket why false false false q = let z : _≡_ {A = ℕ} 0 1 = cc in absurd (omega arith)
+
 module _ (s : Resequencer) (n ticket : ℕ) (g : goodOrder s ≡ true) where
   pub arrive-stray : 64 ≤ n → arriveOf s n ticket ≡ plain (NotTaken OutOfRange) s
   unfolding arriveVerdict
@@ -62,6 +73,16 @@ module _ (s : Resequencer) (n ticket : ℕ) (g : goodOrder s ≡ true) where
 
   pub arrive-early : n < 64 → 1 ≤ ahead s n → ahead s n ≤ 31 → isHeld s n ≡ false → arriveOf s n ticket ≡ plain Held (hold s n ticket)
   arrive-early l b h e = arrive-taken l ∙ held-on s n ticket h e (λ q. omega arith)
+
+  -- one that is refused has an SN over 63
+  pub arrive-refuses : (why : Refusal) → arriveOf s n ticket .outcome ≡ NotTaken why → 63 < n
+  unfolding takeArrival
+  arrive-refuses why e = go (decLt n 64)
+    where
+      go : Dec (n < 64) → 63 < n
+      go (no l) = omega arith
+      go (yes l) =
+          absurd (never-refused s n ticket why (ltb 31 (ahead s n)) (isHeld s n) (eqb (ahead s n) 0) (sym (ap (λ (a : Answer). a .outcome) (arrive-taken l)) ∙ e))
 
 -- ---- clock ends
 

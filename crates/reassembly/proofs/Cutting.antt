@@ -45,7 +45,7 @@ goes-follows b s more (after {s = t}) = rw (eq-eqb (next 64 (t .sn .0)) (next 64
 
 -- the frame of a share reads as its packet
 module _ (form : Form) (good : formGood form ≡ true) (s : Start) (fit : fits (dataOf s false) 0 ≡ true) (more : Bool) (user : List ℕ) (small : length user ≤ shareOf form) where
-  share-reads : readOf form (frameOf form (dataOf s more) user) ≡ PacketRead (dataOf s more) (placeOf (dataOf s more) (length user))
+  pub share-reads : readOf form (frameOf form (dataOf s more) user) ≡ PacketRead (dataOf s more) (placeOf (dataOf s more) (length user))
   share-reads = frame-reads form (dataOf s more) user good (start-fits s more (length user) fit) (omega (arith, small, share-range form good .2))
 
   share-user : userOf (readOf form (frameOf form (dataOf s more) user)) (frameOf form (dataOf s more) user) ≡ user
@@ -63,13 +63,13 @@ more-frames form zero s message = refl
 more-frames form (suc k) s message = refl
 
 -- what is left after a share
-share-taken : (share : ℕ) (message : List ℕ) → length (take share message) ≤ share
+pub share-taken : (share : ℕ) (message : List ℕ) → length (take share message) ≤ share
 share-taken share message = omega (arith, length-take share message)
 
-share-left : (share k : ℕ) (message : List ℕ) → length message ≤ suc (suc k) * share → length (drop share message) ≤ suc k * share
+pub share-left : (share k : ℕ) (message : List ℕ) → length message ≤ suc (suc k) * share → length (drop share message) ≤ suc k * share
 share-left share k message h = omega (arith, h, length-drop share message, suc-mul (suc k) share)
 
-one-share : (share : ℕ) (message : List ℕ) → length message ≤ 1 * share → length message ≤ share
+pub one-share : (share : ℕ) (message : List ℕ) → length message ≤ 1 * share → length message ≤ share
 one-share share message h = omega (arith, h)
 
 pub frames-run : (form : Form) → formGood form ≡ true → (k : ℕ) (s : Start) (message : List ℕ) (b : Before) → fits (dataOf s false) 0 ≡ true → Goes b s

@@ -1,0 +1,3 @@
+-- The claims about messages that cross the link.
+pub mod Circuit
+pub mod Claims
