@@ -60,7 +60,7 @@ reached-good s r = subst (λ (x : Resequencer). goodOrder x ≡ true) (r .1) (wa
 -- ---- call by call
 
 module _ (form : Form) (frames : List (List ℕ)) (numbered : Numbered form 0 frames) where
-  same-answer : (s : Resequencer) (has : ℕ → Bool) (e : Event) → Fits frames s has e → answer form frames s e ≡ answerByNumber ownNumber s e
+  pub same-answer : (s : Resequencer) (has : ℕ → Bool) (e : Event) → Fits frames s has e → answer form frames s e ≡ answerByNumber ownNumber s e
   same-answer s has (packet n) ok =
       let z : 0 + n ≡ n = omega arith in
       ap (λ (sn : ℕ). arriveOf s sn n) (number-at form 0 frames n numbered (ok .0) ∙ ap (λ (x : ℕ). x % 64) z)

@@ -3,3 +3,4 @@ pub mod Sending
 pub mod Arriving
 pub mod InOrder
 pub mod Claims
+pub mod Within
