@@ -1,5 +1,5 @@
 //! The library against `plain`, call by call and over long sequences: the same answers, and the
-//! same lent memory, guards around it included.
+//! same lent memory, guards around it included. And messages from end to end.
 //!
 //! `PEPPERKNOLL_SEED=n` sets the seed, `PEPPERKNOLL_LONG=1` the long setting.
 
@@ -10,6 +10,7 @@ mod messages;
 mod resequencer;
 mod routes;
 mod support;
+mod transfer;
 mod window;
 
 use support::subject;
@@ -47,4 +48,9 @@ fn choice() {
 #[test]
 fn lengths() {
     subject("lengths", lengths::run);
+}
+
+#[test]
+fn transfer() {
+    subject("transfer", transfer::run);
 }

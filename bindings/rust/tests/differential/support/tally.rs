@@ -61,7 +61,7 @@ calls! {
 
 /// The subject that lends lists of wrong lengths.
 const LENGTHS: &str = "lengths";
-const SUBJECTS: usize = 7;
+const SUBJECTS: usize = 8;
 const NUMBERS: usize = 18;
 
 type Counts = [[u64; NUMBERS]; ROWS.len()];
