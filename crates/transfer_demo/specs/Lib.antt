@@ -1,0 +1,3 @@
+-- What the demonstration does, in the words of the claims.
+pub mod Calls
+pub mod Kept
