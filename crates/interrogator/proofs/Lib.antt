@@ -1,2 +1,3 @@
 -- What is proved of choices.
 pub mod Meaning
+pub mod Cases

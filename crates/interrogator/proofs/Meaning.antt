@@ -30,7 +30,7 @@ not-empty : (w c : ℕ) → member w c ≡ true → w ≢ 0
 not-empty w c e z = false≢true (sym (member-none c) ∙ ap (λ (x : ℕ). member x c) (sym z) ∙ e)
 
 module _ (codes failed : ℕ) where
-  of-usable : (c : ℕ) → c < 16 → member (usable codes failed) c ≡ true → Usable codes failed c
+  pub of-usable : (c : ℕ) → c < 16 → member (usable codes failed) c ≡ true → Usable codes failed c
   of-usable c h e =
       let p = parts (member codes c) (member failed c) (sym (set-laws 16 .member-difference codes failed c h) ∙ e) in
       (h, p .0, p .1)
@@ -44,7 +44,7 @@ module _ (codes failed : ℕ) where
       pos : (w : ℕ) → w ≢ 0 → 0 < w
       pos w n = omega arith
 
-  lowest-usable : usable codes failed ≢ 0 → Usable codes failed (lowest 16 (usable codes failed))
+  pub lowest-usable : usable codes failed ≢ 0 → Usable codes failed (lowest 16 (usable codes failed))
   lowest-usable n = of-usable _ (lowest-lt n) (set-laws 16 .lowest-is (usable codes failed) (lowest-lt n) .in-set)
 
   -- the code chosen can be used
@@ -91,7 +91,7 @@ module _ (codes failed : ℕ) where
         go true false true p q r = eqb-true _ 0 r
         go true false false p q r = (p, eqb-false _ 0 r, refl)
 
-    must-choose : (c : ℕ) → lastGood last ≡ true → Usable codes failed c → chooseOf codes last failed ≡ Chosen (chosenCode (usable codes failed) last)
+    pub must-choose : (c : ℕ) → lastGood last ≡ true → Usable codes failed c → chooseOf codes last failed ≡ Chosen (chosenCode (usable codes failed) last)
     unfolding chooseOf chooseVerdict
     must-choose c g u =
         ap₂ (λ (b : Bool) (e : Bool). chosenBy b e (eqb (usable codes failed) 0)) g (ne-eqb codes 0 (not-empty codes c (u .1)))

@@ -1,8 +1,8 @@
 // The choice of interrogator for a ground address, from the set of codes that the address has.
 ghost use mathlib.Core.Path.{_≡_};
-ghost use Rattle.interrogator.specs.Choosing.{choiceNumber, clearingOf, lastGood, chosenCode, chooseVerdict, chooseOf};
+ghost use Rattle.interrogator.specs.declared.LastUsed.the-variants.{Nothing as NoCode};
+ghost use Rattle.interrogator.specs.Choosing.{choiceNumber, clearingOf, chooseOf};
 use refusal::Refusal;
-use refusal::Verdict;
 use wordset::set16;
 
 // The code by which the last transfer went, if there is one.
@@ -51,61 +51,39 @@ impl Choice {
     }
 }
 
-impl LastUsed {
-    // Whether the code, if there is one, is one of the 16.
-    fn is_good(self) -> bool
-        ensures { λ r. ⌜ r ≡ lastGood self ⌝ }
-    {
-        match self {
-            LastUsed::Code(code) => code < 16,
-            LastUsed::Nothing => true,
-        }
-    }
-
-    // The last-used code if it is usable, else the lowest usable one.
-    fn or_lowest(self, usable: u16) -> u8
-        ensures { λ r. ⌜ r ≡ chosenCode usable self ⌝ }
-    {
-        let lowest = set16::lowest(usable);
-        match self {
-            LastUsed::Code(code) => {
-                if set16::member(usable, code) {
-                    code
-                } else {
-                    lowest
-                }
-            }
-            LastUsed::Nothing => lowest,
-        }
-    }
-}
-
-// Whether a code can be chosen, checked in the order 1, 8, 15.
-fn check_choice(codes: u16, last: LastUsed, failed: u16) -> Verdict
-    ensures { λ r. ⌜ r ≡ chooseVerdict codes last failed ⌝ }
+// Chooses where no last-used code can be: the lowest usable one, refused in the order 8, 15.
+fn choose_lowest(codes: u16, failed: u16) -> Choice
+    ensures { λ r. ⌜ r ≡ chooseOf codes NoCode failed ⌝ }
 {
-    if last.is_good() {
+    let usable = set16::difference(codes, failed);
+    if usable == 0 {
         if codes == 0 {
-            Verdict::Refused(Refusal::NoInterrogator)
+            Choice::Refused(Refusal::NoInterrogator)
         } else {
-            if set16::difference(codes, failed) == 0 {
-                Verdict::Refused(Refusal::AllFailed)
-            } else {
-                Verdict::Done
-            }
+            Choice::Refused(Refusal::AllFailed)
         }
     } else {
-        Verdict::Refused(Refusal::OutOfRange)
+        Choice::Chosen(set16::lowest(usable))
     }
 }
 
-// Chooses among the codes of an address: not one of the failed ones, the last-used one if it can be.
+// Chooses among the codes of an address: not one of the failed ones, the last-used one if it can be. A last-used code over 15 is refused
+// before all else.
 pub fn choose(codes: u16, last: LastUsed, failed: u16) -> Choice
     ensures { λ r. ⌜ r ≡ chooseOf codes last failed ⌝ }
 {
-    let verdict = check_choice(codes, last, failed);
-    match verdict {
-        Verdict::Done => Choice::Chosen(last.or_lowest(set16::difference(codes, failed))),
-        Verdict::Refused(why) => Choice::Refused(why),
+    match last {
+        LastUsed::Code(code) => {
+            if code < 16 {
+                if set16::member(set16::difference(codes, failed), code) {
+                    Choice::Chosen(code)
+                } else {
+                    choose_lowest(codes, failed)
+                }
+            } else {
+                Choice::Refused(Refusal::OutOfRange)
+            }
+        }
+        LastUsed::Nothing => choose_lowest(codes, failed),
     }
 }

@@ -1,7 +1,7 @@
 // The receiving end of the modulo 16 flow window (document 01, "The two counters"): which PS is taken, and when PR is due. Each call takes
 // an end by value and hands back its answer with the next end; a refused call hands back the end that it was given.
 ghost use mathlib.Core.Path.{_≡_};
-ghost use Prim.Native.Nat.{_+_, min};
+ghost use Prim.Native.Nat.{_+_, _≤_, min};
 ghost use Rattle.receiver.specs.Receiving.{receiptNumber, tellingNumber, freshReceiver, receiverGood, otherPs, receiveVerdict, receiveOf, tellOf};
 use refusal::Refusal;
 use refusal::Verdict;
@@ -64,9 +64,10 @@ impl Telling {
 
 // One packet more that has not been told, and never over 8.
 fn one_more(untold: u8) -> u8
+    requires { ⌜ untold ≤ 8 ⌝ }
     ensures { λ r. ⌜ r ≡ min 8 (untold + 1) ⌝ }
 {
-    if untold < 8 { untold + 1 } else { 8 }
+    if untold < 8 { untold + 1 } else { untold }
 }
 
 impl Receiver {
@@ -85,8 +86,11 @@ impl Receiver {
     pub fn in_order(self) -> bool
         ensures { λ r. ⌜ r ≡ receiverGood self ⌝ }
     {
-        self.expected.0 <= 15
-            && (self.untold <= 8 && (!self.first || (self.expected.0 == 0 && self.untold == 0)))
+        if self.first {
+            self.expected.0 == 0 && self.untold == 0
+        } else {
+            self.expected.0 <= 15 && self.untold <= 8
+        }
     }
 
     // Why a PS other than the expected one is refused.
@@ -104,19 +108,19 @@ impl Receiver {
         }
     }
 
-    // Whether a PS is taken, checked in the order 14, 1, then 12, 10 or 11.
+    // Whether a PS is taken: refused in the order 14, 1, then 12, 10 or 11. The expected one is in its field, so that it is looked for first.
     fn check_receive(self, ps: PacketNumber) -> Verdict
         ensures { λ r. ⌜ r ≡ receiveVerdict self (ps .0) ⌝ }
     {
         if self.in_order() {
-            if ps.in_field() {
-                if ps.0 == self.expected.0 {
-                    Verdict::Done
-                } else {
-                    Verdict::Refused(self.other(ps))
-                }
+            if ps.0 == self.expected.0 {
+                Verdict::Done
             } else {
-                Verdict::Refused(Refusal::OutOfRange)
+                if ps.in_field() {
+                    Verdict::Refused(self.other(ps))
+                } else {
+                    Verdict::Refused(Refusal::OutOfRange)
+                }
             }
         } else {
             Verdict::Refused(Refusal::NotInOrder)

@@ -1,18 +1,19 @@
 -- The numbers that NESN passes: their mask, what is left of the sets, and the tickets left.
 -- Assumes nothing.
-use mathlib.Core.Path.{_≡_, sym, ap, ap₂, _∙_}
+use mathlib.Core.Path.{_≡_, refl, sym, ap, ap₂, _∙_}
 use mathlib.Core.Bool.{Bool, not, cond, _&&_}
 use mathlib.Core.List.{List}
 use mathlib.Core.Logic.{_≢_}
 use Prim.Native.Nat.{ℕ, _+_, _-_, _*_, _%_, _^_, _<_}
+use native.Mathlib.Nat.{mod-lt}
 use native.Mathlib.Decide.{decLt}
 use native.Mathlib.Omega.{arith}
 use lib.Dec.{ltb, lit<}
 use lib.ListN.{length, getD, set, length-set}
-use lib.Seq.{getD-set-same, getD-set-other}
+use lib.Seq.{getD-set-same, getD-set-other, set-getD}
 use borrow.Author.Tests.{lt-ltb, le-ltb}
 use Rattle.lists.specs.Lists.{listFrom}
-use Rattle.lists.proofs.Lists.{length-from, getD-from, is-from}
+use Rattle.lists.proofs.Lists.{length-from, getD-from, is-from, from-at}
 use Rattle.sequence.specs.declared.LinkNumber.{LinkNumber}
 use Rattle.sequence.specs.Modular.{distance}
 use Rattle.sequence.specs.Numbers.{link}
@@ -83,6 +84,21 @@ module _ (nesn : ℕ) where
                   ∙ ap (λ (x : Bool). cond x 0 (getD tickets n 0)) (sym (lt-ltb (distance 64 nesn n) (i + 1) (omega arith)))
             ]
       ]
+
+  -- the next number's ticket still stands
+  pub left-next : (tickets : List ℕ) (i : ℕ) → i < 64 → getD (ticketsLeft tickets nesn i) ((nesn + i) % 64) 0 ≡ getD tickets ((nesn + i) % 64) 0
+  unfolding ticketsLeft left
+  left-next tickets i h =
+      let n = (nesn + i) % 64 in
+      from-at 64 (left tickets i) n (mod-lt (nesn + i) (lit< tt))
+      ∙ ap (λ (b : Bool). cond b 0 (getD tickets n 0)) (le-ltb (distance 64 nesn n) i (omega (arith, distance-at 64 (lit< tt) nesn i h)))
+
+  -- one more that has no ticket
+  pub left-same : (tickets : List ℕ) (i : ℕ) → i < 64 → getD tickets ((nesn + i) % 64) 0 ≡ 0 → ticketsLeft tickets nesn i ≡ ticketsLeft tickets nesn (i + 1)
+  left-same tickets i h z =
+      let l = ticketsLeft tickets nesn i in
+      let n = (nesn + i) % 64 in
+      sym (set-getD l n 0) ∙ ap (set l n) (left-next tickets i h ∙ z) ∙ left-more tickets l i n h refl refl
 
 -- ---- the state after it
 

@@ -4,44 +4,63 @@ use mathlib.Core.Path.{_≡_, refl, sym, ap, ap₂, _∙_, subst}
 use mathlib.Core.Bool.{Bool, true, false, cond, _&&_}
 use mathlib.Core.List.{List, [], _++_}
 use mathlib.Core.Logic.{_≢_}
-use Prim.Native.Nat.{ℕ, _+_, _-_, _*_, _≤_, _<_}
+use Prim.Native.Nat.{ℕ, _+_, _-_, _*_, _%_, _≤_, _<_}
 use native.Mathlib.Omega.{arith}
-use lib.Dec.{eqb}
-use lib.ListN.{length, set, take, drop, replicate, length-drop}
+use lib.Dec.{eqb, lit<}
+use lib.ListN.{length, getD, set, take, drop, replicate, length-drop}
 use lib.Seq.{take-all, paste}
 use borrow.Author.Tests.{eq-eqb, ne-eqb, eqb-false}
-use Rattle.little.specs.Little.{littleBytes, listBytes}
+use Rattle.refusal.specs.declared.Refusal.{Refusal}
+use Rattle.refusal.specs.Numbers.{numberOf}
+use Rattle.refusal.proofs.Numbers.{number-range}
+use Rattle.little.specs.Little.{littleOf, littleBytes, listBytes}
 use Rattle.little.specs.Law.{Below}
-use Rattle.little.proofs.Little.{length-list}
-use Rattle.wordset.specs.Sets.{digit, every}
+use Rattle.wordset.specs.Sets.{member, digit, every}
 use Rattle.resequencer.specs.declared.Resequencer.{Resequencer}
 use Rattle.resequencer.specs.declared.Numbers.{Numbers}
 use Rattle.resequencer.specs.declared.Step.{Step}
 use Rattle.resequencer.specs.declared.Outcome.{Outcome}
-use Rattle.resequencer.specs.declared.Outcome.the-variants.{Held, HandedOn, Old, Duplicate, Refused}
+use Rattle.resequencer.specs.declared.Outcome.the-variants.{Refused}
 use Rattle.resequencer.specs.declared.Answer.{Answer}
 use Rattle.resequencer.specs.State.{freshState, goodOrder}
 use Rattle.resequencer.specs.Events.{outcomeNumber, plain, places, heldTickets, arriveOf, clockEndOf}
 use Rattle.resequencer.specs.Parts.{ticketFits, ticketsLeft, arrivedTickets, ticketsFrom}
 use Rattle.resequencer.specs.Numbers.{numbersOf, handsOn, holds, stepTickets, stepState, stepAnswer}
+use Rattle.resequencer.proofs.Order.{in-order}
 use Rattle.resequencer.proofs.Handing.{held-from}
 use Rattle.resequencer.proofs.Refusing.{refusals-change-nothing}
 use Rattle.resequencer_bytes.specs.Stored.{isCall, stateIn, stateBytes, outcomeKind, answerCode, codeBy, bytesBy, ticketsBy, freshCode, freshBytes, orderCode}
 use Rattle.resequencer_bytes.specs.Parts.{ticketsIn, withNumbers, withTickets}
-use Rattle.resequencer_bytes.proofs.Writing.{tickets-same, ticket-put, state-made}
+use Rattle.resequencer_bytes.proofs.Writing.{tickets-same, ticket-written, state-made}
 use Rattle.resequencer_bytes.proofs.Stored.{written-back}
 
-pub kind-most : (o : Outcome) → outcomeKind o ≤ 3
-kind-most Held = omega arith
-kind-most HandedOn = omega arith
-kind-most Old = omega arith
-kind-most Duplicate = omega arith
-kind-most (Refused why) = omega arith
+-- ---- what good order says of the tickets in their bytes
+
+module _ (b : List ℕ) (g : goodOrder (stateIn b) ≡ true) where
+  pub nesn-low : stateIn b .nesn .0 < 64
+  nesn-low = in-order (stateIn b) g .nesn-lt
+
+  -- a number that is not held has none
+  pub bare-ticket : (n : ℕ) (r : Bool) → n < 64 → r ≡ member (stateIn b .held) n → r ≡ false → getD (ticketsIn (drop 18 b)) n 0 ≡ 0
+  unfolding stateIn
+  bare-ticket n r h e f = in-order (stateIn b) g .tickets n h (sym e ∙ f)
+
+  -- NESN has none
+  pub nesn-bare : getD (ticketsIn (drop 18 b)) (stateIn b .nesn .0) 0 ≡ 0
+  nesn-bare = go (member (stateIn b .held) (stateIn b .nesn .0)) refl
+    where
+      here : (stateIn b .nesn .0 + 0) % 64 ≡ stateIn b .nesn .0
+      here = omega (arith, nesn-low)
+
+      go : (t : Bool) → member (stateIn b .held) (stateIn b .nesn .0) ≡ t → getD (ticketsIn (drop 18 b)) (stateIn b .nesn .0) 0 ≡ 0
+      go false e = bare-ticket (stateIn b .nesn .0) false nesn-low (sym e) refl
+      go true e =
+          absurd (omega (arith, in-order (stateIn b) g .window 0 (lit< tt) (ap (member (stateIn b .held)) here ∙ e) .0))
 
 -- ---- the tickets as a step moves them
 
 -- all that is behind the numbers
-pub behind : (b : List ℕ) → length b ≡ 146 → take 128 (drop 18 b) ≡ drop 18 b
+behind : (b : List ℕ) → length b ≡ 146 → take 128 (drop 18 b) ≡ drop 18 b
 behind b l = take-all 128 (drop 18 b) (omega (arith, length-drop 18 b))
 
 abbrev pub Moved : List ℕ → Step → ℕ → ℕ → ℕ → ℕ → List ℕ → List ℕ → Type 0
@@ -67,27 +86,26 @@ module _ (b : List ℕ) (step : Step) (d n ticket : ℕ) where
         ),
       )
 
-  pub moved-on : (m : Numbers) (count : ℕ) (out x : List ℕ) → length b ≡ 146 → m ≡ numbersOf (stateIn b) → handsOn (step .outcome) ≡ true
-      → count ≡ length (arrivedTickets d ticket ++ ticketsFrom (m .held) (ticketsIn (take 128 (drop 18 b))) (m .nesn .0 + d) (step .passed - d))
-      → out ≡ places (arrivedTickets d ticket ++ ticketsFrom (m .held) (ticketsIn (take 128 (drop 18 b))) (m .nesn .0 + d) (step .passed - d))
-      → x ≡ withTickets b (ticketsLeft (ticketsIn (drop 18 b)) (m .nesn .0) (step .passed))
+  pub moved-on : (m : Numbers) (count : ℕ) (out x : List ℕ) → m ≡ numbersOf (stateIn b) → handsOn (step .outcome) ≡ true → d ≤ step .passed
+      → count ≡ length (arrivedTickets d ticket ++ ticketsFrom (m .held) (ticketsIn (drop 18 b)) (m .nesn .0 + d) (step .passed - d))
+      → out ≡ places (arrivedTickets d ticket ++ ticketsFrom (m .held) (ticketsIn (drop 18 b)) (m .nesn .0 + d) (step .passed - d))
+      → x ≡ withTickets b (ticketsLeft (ticketsIn (drop 18 b)) (stateIn b .nesn .0) (d + (step .passed - d)))
       → Moved b step d n ticket count out x
   unfolding stateIn
-  moved-on m count out x l e h c o y =
-      let t : ticketsFrom (m .held) (ticketsIn (take 128 (drop 18 b))) (m .nesn .0 + d) (step .passed - d) ≡ heldTickets (stateIn b) d (step .passed - d) =
-      ap₂ (λ (q : Numbers) (r : List ℕ). ticketsFrom (q .held) (ticketsIn r) (q .nesn .0 + d) (step .passed - d)) e (behind b l) ∙ held-from (stateIn b) d (step .passed - d) in
+  moved-on m count out x e h least c o y =
+      let t : ticketsFrom (m .held) (ticketsIn (drop 18 b)) (m .nesn .0 + d) (step .passed - d) ≡ heldTickets (stateIn b) d (step .passed - d) =
+      ap (λ (q : Numbers). ticketsFrom (q .held) (ticketsIn (drop 18 b)) (q .nesn .0 + d) (step .passed - d)) e ∙ held-from (stateIn b) d (step .passed - d) in
+      let z : d + (step .passed - d) ≡ step .passed = omega arith in
       by-outcome true (holds (step .outcome)) count out x h refl
       (c ∙ ap (λ (q : List ℕ). length (arrivedTickets d ticket ++ q)) t)
       (o ∙ ap (λ (q : List ℕ). places (arrivedTickets d ticket ++ q)) t)
-      (y ∙ ap (λ (q : Numbers). withTickets b (ticketsLeft (ticketsIn (drop 18 b)) (q .nesn .0) (step .passed))) e)
+      (y ∙ ap (λ (k : ℕ). withTickets b (ticketsLeft (ticketsIn (drop 18 b)) (stateIn b .nesn .0) k)) z)
 
   pub moved-in : (out x : List ℕ) → length b ≡ 146 → Below 256 b → n < 64 → handsOn (step .outcome) ≡ false → holds (step .outcome) ≡ true → out ≡ replicate 32 0
       → x ≡ paste b (18 + 2 * n) (littleBytes 2 ticket) 2 → Moved b step d n ticket 0 out x
   unfolding stateIn places
   moved-in out x l low h e f o y =
-      by-outcome false true 0 out x e f refl o
-      (y ∙ ap (λ (q : List ℕ). paste q (18 + 2 * n) (littleBytes 2 ticket) 2) (tickets-same b l low)
-      ∙ ticket-put b (ticketsIn (drop 18 b)) l n ticket (omega (arith, length-list 2 64 (drop 18 b))))
+      by-outcome false true 0 out x e f refl o (ticket-written b l low n ticket x h y)
 
   pub moved-none : (out : List ℕ) → length b ≡ 146 → Below 256 b → handsOn (step .outcome) ≡ false → holds (step .outcome) ≡ false → out ≡ replicate 32 0 → Moved b step d n ticket 0 out b
   unfolding stateIn places
@@ -95,34 +113,54 @@ module _ (b : List ℕ) (step : Step) (d n ticket : ℕ) where
 
 -- ---- an answer
 
-pub taken : (o : Outcome) (n : ℕ) (x y z : List ℕ) → n ≡ outcomeNumber o → n ≡ 0 → x ≡ y → x ≡ cond (eqb (outcomeNumber o) 0) y z
-taken o n x y z e q p = p ∙ ap (λ (b : Bool). cond b y z) (sym (eq-eqb (outcomeNumber o) 0 (sym e ∙ q)))
+-- the numbers written over themselves
+numbers-same : (b : List ℕ) → length b ≡ 146 → Below 256 b → b ≡ withNumbers b (numbersOf (stateIn b))
+unfolding stateIn
+numbers-same b l low = sym (state-made b b (stateIn b) l (tickets-same b l low) ∙ written-back b l low)
 
-pub refused : (o : Outcome) (n : ℕ) (y z : List ℕ) → n ≡ outcomeNumber o → n ≢ 0 → z ≡ cond (eqb (outcomeNumber o) 0) y z
-refused o n y z e q = ap (λ (b : Bool). cond b y z) (sym (ne-eqb (outcomeNumber o) 0 (λ w. q (e ∙ w))))
+-- what a step answers, the bytes and the places after it
+abbrev Ends : List ℕ → Step → ℕ → ℕ → ℕ → List ℕ → ℕ → List ℕ → List ℕ → Type 0
+Ends b step d n ticket out₀ r y out =
+    (r ≡ answerCode (stepAnswer (stateIn b) step d n ticket))
+    × ((y ≡ cond (eqb (outcomeNumber (step .outcome)) 0) (stateBytes (stepState (stateIn b) step n ticket)) b)
+    × (out ≡ cond (eqb (outcomeNumber (step .outcome)) 0) (places (stepTickets (stateIn b) step d ticket)) out₀))
 
-module _ (s : Resequencer) (step : Step) (d n ticket : ℕ) where
-  -- a refusal is its number
-  pub refused-code : (number : ℕ) → number ≡ outcomeNumber (step .outcome) → number ≢ 0 → number ≡ answerCode (stepAnswer s step d n ticket)
+module _ (b : List ℕ) (step : Step) (d n ticket : ℕ) (out₀ : List ℕ) (l : length b ≡ 146) where
+  -- the tickets moved, the numbers written and the outcome told
+  pub taken : (o : Outcome) → step .outcome ≡ o → outcomeNumber o ≡ 0 → (r count : ℕ) (out x y : List ℕ) → r ≡ 256 * outcomeKind o + 65536 * count
+      → Moved b step d n ticket count out x → y ≡ withNumbers x (step .next) → Ends b step d n ticket out₀ r y out
+  unfolding answerCode stepAnswer stepState
+  taken o e z r count out x y q moved p =
+      let number : outcomeNumber (step .outcome) ≡ 0 = ap outcomeNumber e ∙ z in
+      let kind : outcomeKind (step .outcome) ≡ outcomeKind o = ap outcomeKind e in
+      let done : eqb (outcomeNumber (step .outcome)) 0 ≡ true = eq-eqb (outcomeNumber (step .outcome)) 0 number in (
+        omega (arith, q, number, kind, moved .0),
+        (
+          p ∙ state-made b x (stepState (stateIn b) step n ticket) l (moved .1 .1)
+              ∙ ap (λ (t : Bool). cond t (stateBytes (stepState (stateIn b) step n ticket)) b) (sym done),
+          moved .1 .0 ∙ ap (λ (t : Bool). cond t (places (stepTickets (stateIn b) step d ticket)) out₀) (sym done),
+        ),
+      )
+
+  -- a packet dropped: only the places are written
+  pub dropped : (o : Outcome) → step .outcome ≡ o → outcomeNumber o ≡ 0 → handsOn o ≡ false → holds o ≡ false → step .next ≡ numbersOf (stateIn b) → Below 256 b
+      → (r : ℕ) (out : List ℕ) → r ≡ 256 * outcomeKind o → out ≡ replicate 32 0 → Ends b step d n ticket out₀ r b out
+  dropped o e z h k same low r out q p =
+      taken o e z r 0 out b b (omega (arith, q)) (moved-none b step d n ticket out l low (ap handsOn e ∙ h) (ap holds e ∙ k) p)
+      (numbers-same b l low ∙ ap (withNumbers b) (sym same))
+
+  -- a refusal is its number, and nothing is written
+  pub refused : (why : Refusal) → step .outcome ≡ Refused why → (r : ℕ) → r ≡ numberOf why → Ends b step d n ticket out₀ r b out₀
   unfolding answerCode stepAnswer stepTickets
-  refused-code number e q =
-      e ∙ go (step .outcome) (arrivedTickets d ticket ++ heldTickets s d (step .passed - d)) (λ z. q (e ∙ z))
-    where
-      go : (o : Outcome) (l : List ℕ) → outcomeNumber o ≢ 0 → outcomeNumber o ≡ outcomeNumber o + 256 * outcomeKind o + 65536 * length (cond (handsOn o) l [])
-      go Held l h = absurd (h refl)
-      go HandedOn l h = absurd (h refl)
-      go Old l h = absurd (h refl)
-      go Duplicate l h = absurd (h refl)
-      go (Refused why) l h = omega arith
-
-  pub taken-code : (number k count : ℕ) → number ≡ outcomeNumber (step .outcome) → number ≡ 0 → k ≡ outcomeKind (step .outcome) → count ≡ length (stepTickets s step d ticket)
-      → 256 * k + 65536 * count ≡ answerCode (stepAnswer s step d n ticket)
-  unfolding answerCode stepAnswer
-  taken-code number k count e z q c = omega (arith, e, z, q, c)
-
-  pub taken-state : (b x y : List ℕ) → length b ≡ 146 → x ≡ withTickets b (stepState s step n ticket .tickets) → y ≡ withNumbers x (step .next) → y ≡ stateBytes (stepState s step n ticket)
-  unfolding stepState
-  taken-state b x y l e q = q ∙ state-made b x (stepState s step n ticket) l e
+  refused why e r q =
+      let f : eqb (outcomeNumber (step .outcome)) 0 ≡ false = ap (λ (o : Outcome). eqb (outcomeNumber o) 0) e ∙ ne-eqb (numberOf why) 0 (λ (z : numberOf why ≡ 0). absurd (omega (arith, number-range why .0))) in
+      let z : numberOf why ≡ numberOf why + 256 * 0 + 65536 * 0 = omega arith in (
+        q ∙ z ∙ ap (λ (o : Outcome). outcomeNumber o + 256 * outcomeKind o + 65536 * length (cond (handsOn o) (arrivedTickets d ticket ++ heldTickets (stateIn b) d (step .passed - d)) [])) (sym e),
+        (
+          ap (λ (t : Bool). cond t (stateBytes (stepState (stateIn b) step n ticket)) b) (sym f),
+          ap (λ (t : Bool). cond t (places (stepTickets (stateIn b) step d ticket)) out₀) (sym f),
+        ),
+      )
 
 -- ---- a call: what it answers, the bytes and the places after it
 
@@ -182,10 +220,10 @@ unfolding stepAnswer
 as-written s step d n ticket b out r b′ out′ w = w
 
 -- the tickets in their bytes, as the code looks at them
-pub stored-fit : (b : List ℕ) (m : Numbers) (fits : Bool) → length b ≡ 146 → m ≡ numbersOf (stateIn b) → fits ≡ every 64 (ticketFits (m .held) (ticketsIn (take 128 (drop 18 b))))
+pub stored-fit : (b : List ℕ) (held : ℕ) (fits : Bool) → length b ≡ 146 → held ≡ littleOf (take 8 (drop 2 b)) → fits ≡ every 64 (ticketFits held (ticketsIn (take 128 (drop 18 b))))
     → fits ≡ every 64 (ticketFits (stateIn b .held) (stateIn b .tickets))
 unfolding stateIn
-stored-fit b m fits l e f = f ∙ ap₂ (λ (q : Numbers) (r : List ℕ). every 64 (ticketFits (q .held) (ticketsIn r))) e (behind b l)
+stored-fit b held fits l e f = f ∙ ap₂ (λ (h : ℕ) (r : List ℕ). every 64 (ticketFits h (ticketsIn r))) e (behind b l)
 
 -- ---- good order
 

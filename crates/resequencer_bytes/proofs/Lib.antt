@@ -2,5 +2,6 @@
 pub mod Reading
 pub mod Writing
 pub mod Stored
+pub mod Steps
 pub mod Calls
 pub mod Claims

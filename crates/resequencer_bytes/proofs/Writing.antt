@@ -1,22 +1,26 @@
 -- A state written over its bytes, part by part: its numbers, its tickets.
 -- Assumes nothing.
-use mathlib.Core.Path.{_≡_, refl, sym, ap, ap₂, _∙_}
+use mathlib.Core.Path.{_≡_, refl, sym, ap, ap₂, _∙_, subst}
+use mathlib.Core.Bool.{Bool, true, false, cond}
 use mathlib.Core.List.{List, [], _∷_, _++_, append-assoc, append-nil}
-use Prim.Native.Nat.{ℕ, _+_, _*_, _%_, _≤_, _<_}
+use Prim.Native.Nat.{ℕ, zero, suc, _+_, _*_, _%_, _^_, _≤_, _<_}
 use native.Mathlib.Numerals.{add-one}
 use native.Mathlib.Omega.{arith}
+use lib.Dec.{ltb, lit<}
 use lib.ListN.{length, getD, set, take, drop, replicate, length-append, length-drop, length-replicate, getD-replicate, take-append-drop, drop-of-length-le}
-use lib.Seq.{drop-at, take-all, length-take-le, paste, paste-zero, paste-suc}
-use Rattle.little.specs.Little.{littleBytes, listBytes}
+use lib.Seq.{take-at, drop-at, take-all, length-take-le, paste, paste-zero, paste-suc}
+use Rattle.little.specs.Little.{littleOf, littleBytes, littleList, listBytes}
 use Rattle.little.specs.Law.{Below}
-use Rattle.little.proofs.Little.{length-list, length-listBytes, list-written-back, below-drop}
-use Rattle.little.proofs.Places.{paste-more, paste-behind, paste-number}
+use Rattle.little.proofs.Little.{length-list, length-listBytes, list-read-back, list-written-back, below-take, below-drop}
+use Rattle.little.proofs.Words.{little-lt}
+use Rattle.little.proofs.Places.{list-at, paste-more, paste-behind, paste-number}
 use Rattle.resequencer.specs.declared.Resequencer.{Resequencer}
 use Rattle.resequencer.specs.declared.Numbers.{Numbers}
 use Rattle.resequencer.specs.Numbers.{numbersOf}
 use Rattle.resequencer.specs.Parts.{ticketsLeft}
-use Rattle.resequencer.proofs.Passing.{left-none, left-more}
-use Rattle.lists.proofs.Lists.{length-from}
+use Rattle.resequencer.proofs.Passing.{left-none, left-more, left-next, left-same}
+use Rattle.lists.proofs.Lists.{length-from, from-at}
+use Rattle.sequence.specs.Modular.{distance}
 use Rattle.resequencer_bytes.specs.Stored.{stateBytes}
 use Rattle.resequencer_bytes.specs.Parts.{ticketsIn, numbersBytes, withNumbers, withTickets}
 
@@ -73,6 +77,11 @@ module _ (b ts : List ℕ) (l : length b ≡ 146) where
   unfolding withTickets
   with-tickets-length e = omega (arith, length-append (take 18 b) (listBytes 2 ts), front, length-listBytes 2 ts)
 
+  -- other tickets over these
+  over-tickets-by : (us : List ℕ) → withTickets (withTickets b ts) us ≡ withTickets b us
+  unfolding withTickets
+  over-tickets-by us = ap (λ (p : List ℕ). p ++ listBytes 2 us) (take-at (take 18 b) (listBytes 2 ts) 18 front)
+
   -- the ticket of number k written
   pub ticket-put : (k x : ℕ) → k < length ts → paste (withTickets b ts) (18 + 2 * k) (littleBytes 2 x) 2 ≡ withTickets b (set ts k x)
   unfolding withTickets
@@ -88,7 +97,13 @@ module _ (b : List ℕ) (l : length b ≡ 146) (low : Below 256 b) where
   tickets-same =
       sym (ap (λ (r : List ℕ). take 18 b ++ r) (list-written-back 2 64 (drop 18 b) (omega (arith, length-drop 18 b)) (below-drop 256 18 b low)) ∙ take-append-drop 18 b)
 
-  -- the loop that clears tickets
+  -- the ticket of number n written over the bytes
+  pub ticket-written : (n x : ℕ) (y : List ℕ) → n < 64 → y ≡ paste b (18 + 2 * n) (littleBytes 2 x) 2 → y ≡ withTickets b (set (ticketsIn (drop 18 b)) n x)
+  ticket-written n x y h e =
+      e ∙ ap (λ (q : List ℕ). paste q (18 + 2 * n) (littleBytes 2 x) 2) tickets-same
+      ∙ ticket-put b (ticketsIn (drop 18 b)) l n x (omega (arith, length-list 2 64 (drop 18 b)))
+
+  -- the loop that hands tickets on: those of the numbers passed are gone
   abbrev left : ℕ → ℕ → List ℕ
   left nesn i = ticketsLeft (ticketsIn (drop 18 b)) nesn i
 
@@ -96,16 +111,64 @@ module _ (b : List ℕ) (l : length b ≡ 146) (low : Below 256 b) where
   unfolding ticketsLeft
   left-long nesn i = length-from 0 64 _
 
-  pub clear-starts : (nesn : ℕ) → b ≡ withTickets b (left nesn 0)
-  clear-starts nesn = tickets-same ∙ ap (withTickets b) (left-none nesn (ticketsIn (drop 18 b)) 0 (length-list 2 64 (drop 18 b)) refl)
+  left-fits : (nesn i : ℕ) → Below (256 ^ 2) (left nesn i)
+  unfolding ticketsLeft
+  left-fits nesn i n h =
+      let k : n < 64 = omega (arith, left-long nesn i) in
+      subst (λ (x : ℕ). x < 256 ^ 2) (sym (from-at 64 _ n k)) (either (ltb (distance 64 nesn n) i) (ticket-fits n k))
+    where
+      ticket-fits : (j : ℕ) → j < 64 → getD (ticketsIn (drop 18 b)) j 0 < 256 ^ 2
+      ticket-fits j k =
+          let d : List ℕ = drop (j * 2) (drop 18 b) in
+          let e : length (take 2 d) ≡ 2 = length-take-le 2 d (omega (arith, length-drop (j * 2) (drop 18 b), length-drop 18 b)) in
+          subst (λ (x : ℕ). x < 256 ^ 2) (sym (list-at 2 64 (drop 18 b) j k))
+          (subst (λ (x : ℕ). littleOf (take 2 d) < 2 ^ (8 * x)) e
+          (little-lt (take 2 d) (below-take 256 2 d (omega (arith, length-drop (j * 2) (drop 18 b), length-drop 18 b)) (below-drop 256 (j * 2) (drop 18 b) (below-drop 256 18 b low)))))
 
-  pub clear-turns : (state x : List ℕ) (nesn i number : ℕ) → i < 64 → nesn < 64 → number ≡ (nesn + i) % 64 → state ≡ withTickets b (left nesn i)
-      → x ≡ paste state (18 + 2 * number) (littleBytes 2 0) 2 → (length x ≡ 146) × (x ≡ withTickets b (left nesn (i + 1)))
-  clear-turns state x nesn i number h n q e p =
-      let y : x ≡ withTickets b (left nesn (i + 1)) =
-      p ∙ ap (λ (s : List ℕ). paste s (18 + 2 * number) (littleBytes 2 0) 2) e ∙ ticket-put b (left nesn i) l number 0 (omega (arith, left-long nesn i))
-      ∙ ap (withTickets b) (left-more nesn (ticketsIn (drop 18 b)) (left nesn i) i number h refl q) in
-      (ap length y ∙ with-tickets-length b (left nesn (i + 1)) l (left-long nesn (i + 1)), y)
+      either : (t : Bool) {x : ℕ} → x < 256 ^ 2 → cond t 0 x < 256 ^ 2
+      either true h = lit< tt
+      either false h = h
+
+  left-read : (nesn i : ℕ) (state : List ℕ) → state ≡ withTickets b (left nesn i) → ticketsIn (drop 18 state) ≡ left nesn i
+  left-read nesn i state e =
+      ap (λ (x : List ℕ). ticketsIn (drop 18 x)) e
+      ∙ ap ticketsIn (tickets-drop b (left nesn i) l)
+      ∙ ap (λ (n : ℕ). littleList 2 n (listBytes 2 (left nesn i))) (sym (left-long nesn i))
+      ∙ list-read-back 2 (left nesn i) (left-fits nesn i)
+
+  pub left-starts : (nesn d : ℕ) → d ≤ 1 → nesn < 64 → getD (ticketsIn (drop 18 b)) nesn 0 ≡ 0 → b ≡ withTickets b (left nesn d)
+  left-starts nesn d h n z = tickets-same ∙ ap (withTickets b) (go d h)
+    where
+      none : ticketsIn (drop 18 b) ≡ left nesn 0
+      none = left-none nesn (ticketsIn (drop 18 b)) 0 (length-list 2 64 (drop 18 b)) refl
+
+      go : (k : ℕ) → k ≤ 1 → ticketsIn (drop 18 b) ≡ left nesn k
+      go zero h = none
+      go (suc zero) h =
+          let m : (nesn + 0) % 64 ≡ nesn = omega arith in
+          none ∙ left-same nesn (ticketsIn (drop 18 b)) 0 (lit< tt) (ap (λ (x : ℕ). getD (ticketsIn (drop 18 b)) x 0) m ∙ z)
+      go (suc (suc k)) h = absurd (omega arith)
+
+  module _ (nesn i number : ℕ) (state : List ℕ) (h : i < 64) (q : number ≡ (nesn + i) % 64) (e : state ≡ withTickets b (left nesn i)) where
+    pub left-ticket : (r : ℕ) → r ≡ getD (ticketsIn (drop 18 state)) number 0 → r ≡ getD (ticketsIn (drop 18 b)) number 0
+    left-ticket r p =
+        p ∙ ap₂ (λ (x : List ℕ) (n : ℕ). getD x n 0) (left-read nesn i state e) q
+        ∙ left-next nesn (ticketsIn (drop 18 b)) i h
+        ∙ ap (λ (n : ℕ). getD (ticketsIn (drop 18 b)) n 0) (sym q)
+
+    pub left-taken : (x : List ℕ) → x ≡ withTickets state (set (ticketsIn (drop 18 state)) number 0) → (length x ≡ 146) × (x ≡ withTickets b (left nesn (i + 1)))
+    left-taken x p =
+        let y : x ≡ withTickets b (left nesn (i + 1)) =
+        p ∙ ap (λ (s : List ℕ). withTickets s (set (ticketsIn (drop 18 state)) number 0)) e
+        ∙ over-tickets-by b (left nesn i) l (set (ticketsIn (drop 18 state)) number 0)
+        ∙ ap (withTickets b) (ap (λ (s : List ℕ). set s number 0) (left-read nesn i state e) ∙ left-more nesn (ticketsIn (drop 18 b)) (left nesn i) i number h refl q) in
+        (ap length y ∙ with-tickets-length b (left nesn (i + 1)) l (left-long nesn (i + 1)), y)
+
+    pub left-bare : getD (ticketsIn (drop 18 b)) number 0 ≡ 0 → (x : List ℕ) → x ≡ state → (length x ≡ 146) × (x ≡ withTickets b (left nesn (i + 1)))
+    left-bare z x p =
+        let y : x ≡ withTickets b (left nesn (i + 1)) =
+        p ∙ e ∙ ap (withTickets b) (left-same nesn (ticketsIn (drop 18 b)) i h (ap (λ (n : ℕ). getD (ticketsIn (drop 18 b)) n 0) (sym q) ∙ z)) in
+        (ap length y ∙ with-tickets-length b (left nesn (i + 1)) l (left-long nesn (i + 1)), y)
 
 -- ---- the whole
 

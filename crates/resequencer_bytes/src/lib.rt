@@ -1,17 +1,18 @@
 // The resequencer's state in 146 bytes that the caller lends, for callers that are not written in Rattle. The calls are those of `resequencer`.
 ghost use mathlib.Core.Path.{_≡_};
-ghost use mathlib.Core.Bool.{cond};
+ghost use mathlib.Core.Bool.{true, false, cond};
 ghost use mathlib.Core.List.{[], _∷_, _++_};
 ghost use Prim.Native.Nat.{_+_, _≤_, _<_};
 ghost use lib.Dec.{eqb};
-ghost use lib.ListN.{length, drop, replicate};
+ghost use lib.ListN.{length, getD, set, drop, replicate};
 ghost use lib.Seq.{paste};
 ghost use Rattle.little.specs.Little.{littleOf, littleBytes};
 ghost use Rattle.wordset.specs.Sets.{every};
+ghost use Rattle.resequencer.specs.State.{goodOrder};
 ghost use Rattle.resequencer.specs.Events.{outcomeNumber, places};
 ghost use Rattle.resequencer.specs.Parts.{ticketFits, ticketsLeft, arrivedTickets, ticketsFrom};
-ghost use Rattle.resequencer.specs.Numbers.{numbersOf, StepFits, stepTickets, stepState, stepAnswer};
-ghost use Rattle.resequencer_bytes.specs.Stored.{stateIn, stateBytes, outcomeKind, answerCode, arriveCode, arriveBytes, arriveTickets, clockEndCode, clockEndBytes, clockEndTickets, freshCode, freshBytes, orderCode};
+ghost use Rattle.resequencer.specs.Numbers.{numbersOf, handsOn, holds, StepFits, stepTickets, stepState, stepAnswer};
+ghost use Rattle.resequencer_bytes.specs.Stored.{stateIn, stateBytes, answerCode, arriveCode, arriveBytes, arriveTickets, clockEndCode, clockEndBytes, clockEndTickets, freshCode, freshBytes, orderCode};
 ghost use Rattle.resequencer_bytes.specs.Parts.{ticketsIn, withNumbers, withTickets};
 use resequencer::Numbers;
 use resequencer::Outcome;
@@ -120,15 +121,17 @@ fn all_zero(tickets: &[u8]) -> bool
     stray == 0
 }
 
-// Whether the tickets of numbers not held are all 0; most of the time nothing is held, and that is asked at a quarter of the cost.
-fn tickets_in_order(held: u64, tickets: &[u8]) -> bool
-    requires { ⌜ length (now tickets) ≡ 128 ⌝ }
-    ensures { λ r. ⌜ r ≡ every 64 (ticketFits held (ticketsIn (now (tickets .entry)))) ⌝ }
+// Whether the tickets of numbers not held are all 0; most of the time nothing is held, and that is asked at a quarter of the cost. The calls ask it
+// before they read the numbers, so that these need not be kept meanwhile.
+fn tickets_in_order(state: &[u8]) -> bool
+    requires { ⌜ length (now state) ≡ 146 ⌝ }
+    ensures { λ r. ⌜ r ≡ every 64 (ticketFits (stateIn (now (state .entry)) .held) (stateIn (now (state .entry)) .tickets)) ⌝ }
 {
+    let held = word(&state[2..10]);
     if held == 0 {
-        all_zero(tickets)
+        all_zero(&state[18..146])
     } else {
-        none_stray(held, tickets)
+        none_stray(held, &state[18..146])
     }
 }
 
@@ -157,19 +160,6 @@ fn put_numbers(state: &mut [u8], numbers: Numbers)
     put(state, 10, 8, numbers.clocks);
 }
 
-// Puts 0 for the tickets of the m numbers from NESN on.
-fn clear_passed(state: &mut [u8], nesn: u8, m: u8)
-    requires { ⌜ (length (now state) ≡ 146) × ((nesn < 64) × (m < 64)) ⌝ }
-    ensures { λ _. ⌜ now (state .exit) ≡ withTickets (now (state .entry)) (ticketsLeft (ticketsIn (drop 18 (now (state .entry)))) nesn m) ⌝ }
-{
-    let mut i: u8 = 0;
-    while i < m {
-        let number = ((nesn + i) % 64) as usize;
-        put(state, 18 + 2 * number, 2, 0);
-        i += 1;
-    }
-}
-
 // Puts 0 in every place for a ticket.
 fn clear_places(out: &mut [u16])
     requires { ⌜ length (now out) ≡ 32 ⌝ }
@@ -182,90 +172,42 @@ fn clear_places(out: &mut [u16])
     }
 }
 
-// Gathers into `out`, all 0 so far, the tickets of those numbers that are held among the m from the start on, in window order; where d is 1,
-// after the ticket of the packet that has just arrived. The answer is how many there are.
-fn gather_held(
-    out: &mut [u16],
-    held: u64,
-    tickets: &[u8],
-    start: u8,
-    d: u8,
-    ticket: u16,
-    m: u8,
-) -> u8
-    requires { ⌜ (now out ≡ replicate 32 0) × ((length (now tickets) ≡ 128) × ((start ≤ 64) × ((d ≤ 1) × ((d + m ≤ 32) × (d ≡ 0 → ticket ≡ 0))))) ⌝ }
-    ensures { λ r. ⌜ r ≡ length (arrivedTickets d ticket ++ ticketsFrom held (ticketsIn (now (tickets .entry))) start m) ⌝ }
-    ensures { λ _. ⌜ now (out .exit) ≡ places (arrivedTickets d ticket ++ ticketsFrom held (ticketsIn (now (tickets .entry))) start m) ⌝ }
+// Takes the ticket of a number out of the state.
+fn take_ticket(state: &mut [u8], number: u8) -> u16
+    requires { ⌜ (length (now state) ≡ 146) × (number < 64) ⌝ }
+    ensures { λ r. ⌜ r ≡ getD (ticketsIn (drop 18 (now (state .entry)))) number 0 ⌝ }
+    ensures { λ _. ⌜ now (state .exit) ≡ withTickets (now (state .entry)) (set (ticketsIn (drop 18 (now (state .entry)))) number 0) ⌝ }
+{
+    let at = 18 + 2 * (number as usize);
+    let ticket = pair(state[at], state[at + 1]);
+    put(state, at, 2, 0);
+    ticket
+}
+
+// Moves the tickets of those numbers that are held among the m from the start on out of the state and into `out`, all 0 so far, in window order;
+// where d is 1, after the ticket of the packet that has just arrived. The numbers passed that are not held have no ticket to clear. The answer is
+// how many there are.
+fn hand_on(state: &mut [u8], out: &mut [u16], held: u64, start: u8, d: u8, ticket: u16, m: u8) -> u8
+    requires { ⌜ (length (now state) ≡ 146) × ((now out ≡ replicate 32 0) × ((goodOrder (stateIn (now state)) ≡ true) × ((held ≡ stateIn (now state) .held) × ((start ≡ stateIn (now state) .nesn .0 + d) × ((d ≤ 1) × ((d + m ≤ 32) × (d ≡ 0 → ticket ≡ 0))))))) ⌝ }
+    ensures { λ r. ⌜ r ≡ length (arrivedTickets d ticket ++ ticketsFrom held (ticketsIn (drop 18 (now (state .entry)))) start m) ⌝ }
+    ensures { λ _. ⌜ now (out .exit) ≡ places (arrivedTickets d ticket ++ ticketsFrom held (ticketsIn (drop 18 (now (state .entry)))) start m) ⌝ }
+    ensures { λ _. ⌜ now (state .exit) ≡ withTickets (now (state .entry)) (ticketsLeft (ticketsIn (drop 18 (now (state .entry)))) (stateIn (now (state .entry)) .nesn .0) (d + m)) ⌝ }
 {
     out[0] = ticket;
     let mut count = d;
     for i in 0..m {
         let number = (start + i) % 64;
         if set64::member(held, number) {
-            let from = 2 * (number as usize);
             let to = count as usize;
-            out[to] = pair(tickets[from], tickets[from + 1]);
+            out[to] = take_ticket(state, number);
             count += 1;
         }
     }
     count
 }
 
-// Moves the tickets as a step of these numbers does: into the places, all 0 so far, or into the state. The answer is how many are handed on.
-fn move_tickets(
-    state: &mut [u8],
-    out: &mut [u16],
-    numbers: Numbers,
-    step: Step,
-    d: u8,
-    sn: u8,
-    ticket: u16,
-) -> u8
-    requires { ⌜ (length (now state) ≡ 146) × ((now out ≡ replicate 32 0) × ((numbers ≡ numbersOf (stateIn (now state))) × StepFits (numbers .nesn .0) step d sn ticket)) ⌝ }
-    ensures { λ r. ⌜ r ≡ length (stepTickets (stateIn (now (state .entry))) step d ticket) ⌝ }
-    ensures { λ _. ⌜ now (out .exit) ≡ places (stepTickets (stateIn (now (state .entry))) step d ticket) ⌝ }
-    ensures { λ _. ⌜ now (state .exit) ≡ withTickets (now (state .entry)) (stepState (stateIn (now (state .entry))) step sn ticket .tickets) ⌝ }
-{
-    let outcome = step.outcome;
-    let nesn = numbers.nesn.0;
-    match outcome {
-        Outcome::HandedOn => {
-            let count = gather_held(
-                out,
-                numbers.held,
-                &state[18..146],
-                nesn + d,
-                d,
-                ticket,
-                step.passed - d,
-            );
-            clear_passed(state, nesn, step.passed);
-            count
-        }
-        Outcome::Held => {
-            put(state, 18 + 2 * (sn as usize), 2, ticket as u64);
-            0
-        }
-        Outcome::Old => 0,
-        Outcome::Duplicate => 0,
-        Outcome::Refused(_why) => 0,
-    }
-}
-
-// What became of a packet, as a number.
-fn kind(outcome: Outcome) -> u32
-    ensures { λ r. ⌜ r ≡ outcomeKind outcome ⌝ }
-{
-    match outcome {
-        Outcome::Held => 0,
-        Outcome::HandedOn => 1,
-        Outcome::Old => 2,
-        Outcome::Duplicate => 3,
-        Outcome::Refused(_why) => 0,
-    }
-}
-
-// Writes what a step of these numbers does, nothing where the call was refused, and tells it in one number.
+// Writes what a step of these numbers does, nothing where the call was refused and only the places where a packet was dropped, and tells it in one
+// number: the kind of outcome in the second byte, the count of tickets handed on above.
 fn answer(
     state: &mut [u8],
     out: &mut [u16],
@@ -275,21 +217,37 @@ fn answer(
     sn: u8,
     ticket: u16,
 ) -> u32
-    requires { ⌜ (length (now state) ≡ 146) × ((length (now out) ≡ 32) × ((numbers ≡ numbersOf (stateIn (now state))) × StepFits (numbers .nesn .0) step d sn ticket)) ⌝ }
+    requires { ⌜ (length (now state) ≡ 146) × ((length (now out) ≡ 32) × ((numbers ≡ numbersOf (stateIn (now state))) × (StepFits (numbers .nesn .0) step d sn ticket × ((handsOn (step .outcome) ≡ true → goodOrder (stateIn (now state)) ≡ true) × (handsOn (step .outcome) ≡ false → holds (step .outcome) ≡ false → step .next ≡ numbers))))) ⌝ }
     ensures { λ r. ⌜ r ≡ answerCode (stepAnswer (stateIn (now (state .entry))) step d sn ticket) ⌝ }
     ensures { λ _. ⌜ now (state .exit) ≡ cond (eqb (outcomeNumber (step .outcome)) 0) (stateBytes (stepState (stateIn (now (state .entry))) step sn ticket)) (now (state .entry)) ⌝ }
     ensures { λ _. ⌜ now (out .exit) ≡ cond (eqb (outcomeNumber (step .outcome)) 0) (places (stepTickets (stateIn (now (state .entry))) step d ticket)) (now (out .entry)) ⌝ }
 {
     let outcome = step.outcome;
-    let number = outcome.number();
-    if number != 0 {
-        return number as u32;
-    }
-    clear_places(out);
-    let count = move_tickets(state, out, numbers, step, d, sn, ticket);
     let next = step.next;
-    put_numbers(state, next);
-    256 * kind(outcome) + 65536 * (count as u32)
+    match outcome {
+        Outcome::Held => {
+            clear_places(out);
+            put(state, 18 + 2 * (sn as usize), 2, ticket as u64);
+            put_numbers(state, next);
+            0
+        }
+        Outcome::HandedOn => {
+            clear_places(out);
+            let start = numbers.nesn.0 + d;
+            let count = hand_on(state, out, numbers.held, start, d, ticket, step.passed - d);
+            put_numbers(state, next);
+            256 + 65536 * (count as u32)
+        }
+        Outcome::Old => {
+            clear_places(out);
+            512
+        }
+        Outcome::Duplicate => {
+            clear_places(out);
+            768
+        }
+        Outcome::Refused(why) => why.number() as u32,
+    }
 }
 
 // Makes the bytes a state to which nothing has come: 0, or 14 where they are not 146.
@@ -315,8 +273,8 @@ pub fn in_order(state: &[u8]) -> u32
     if state.len() != 146 {
         return 0;
     }
-    let numbers = numbers_in(state);
-    if tickets_in_order(numbers.held, &state[18..146]) {
+    if tickets_in_order(state) {
+        let numbers = numbers_in(state);
         if numbers.in_order() { 1 } else { 0 }
     } else {
         0
@@ -335,8 +293,8 @@ pub fn arrive(state: &mut [u8], tickets: &mut [u16], sn: u8, ticket: u16) -> u32
     if tickets.len() != 32 {
         return 14;
     }
+    let fits = tickets_in_order(state);
     let numbers = numbers_in(state);
-    let fits = tickets_in_order(numbers.held, &state[18..146]);
     let step = numbers.arrive(fits, LinkNumber(sn));
     answer(state, tickets, numbers, step, 1, sn, ticket)
 }
@@ -353,8 +311,8 @@ pub fn clock_end(state: &mut [u8], tickets: &mut [u16], sn: u8) -> u32
     if tickets.len() != 32 {
         return 14;
     }
+    let fits = tickets_in_order(state);
     let numbers = numbers_in(state);
-    let fits = tickets_in_order(numbers.held, &state[18..146]);
     let step = numbers.clock_end(fits, LinkNumber(sn));
     answer(state, tickets, numbers, step, 0, sn, 0)
 }

@@ -4,7 +4,7 @@ ghost use mathlib.Core.Path.{_≡_};
 ghost use Prim.Native.Nat.{_<_};
 ghost use lib.ListN.{length, replicate};
 ghost use Rattle.route.specs.Updating.{codesOf};
-ghost use Rattle.route_bytes.specs.Stored.{tableIn, tableBytes, lastIn, choiceAnswer, emptyCode, emptyBytes, codesCode, countCode, chooseCode, chooseAmongCode, updateCode, updateBytes, updateLost};
+ghost use Rattle.route_bytes.specs.Stored.{tableIn, tableBytes, choiceAnswer, emptyCode, emptyBytes, codesCode, countCode, chooseCode, chooseAmongCode, updateCode, updateBytes, updateLost};
 use interrogator::Choice;
 use interrogator::Clearing;
 use interrogator::LastUsed;
@@ -112,21 +112,6 @@ pub fn count(table: &[u8], address: u8) -> u32
     }
 }
 
-// A last-used code, 65535 for none.
-fn last_in(last: u16) -> LastUsed
-    ensures { λ r. ⌜ r ≡ lastIn last ⌝ }
-{
-    if last == 65535 {
-        LastUsed::Nothing
-    } else {
-        if last < 255 {
-            LastUsed::Code(last as u8)
-        } else {
-            LastUsed::Code(255)
-        }
-    }
-}
-
 // A choice as one number.
 fn choice_answer(choice: Choice) -> u32
     ensures { λ r. ⌜ r ≡ choiceAnswer choice ⌝ }
@@ -157,11 +142,19 @@ pub fn choose(table: &[u8], address: u8, last: u16, failed: u16) -> u32
     }
 }
 
-// Chooses an interrogator among codes that the caller has.
+// Chooses an interrogator among codes that the caller has. A last-used code over 15 is refused with 1, whatever the sets are.
 pub fn choose_among(codes: u16, last: u16, failed: u16) -> u32
     ensures { λ r. ⌜ r ≡ chooseAmongCode codes last failed ⌝ }
 {
-    choice_answer(interrogator::choose(codes, last_in(last), failed))
+    if last < 16 {
+        choice_answer(interrogator::choose(codes, LastUsed::Code(last as u8), failed))
+    } else {
+        if last == 65535 {
+            choice_answer(interrogator::choose(codes, LastUsed::Nothing, failed))
+        } else {
+            1
+        }
+    }
 }
 
 // ---- the update

@@ -1,7 +1,7 @@
 // The sending end of the modulo 16 flow window (document 01, "The two counters"): which PS may be sent, and what a PR acknowledges. Each
 // call takes an end by value and hands back its answer with the next end; a refused call hands back the end that it was given.
 ghost use mathlib.Core.Path.{_≡_};
-ghost use Rattle.sender.specs.Sending.{grantNumber, freshSender, senderGood, sendVerdict, sendOf, acknowledgeVerdict, acknowledgeOf};
+ghost use Rattle.sender.specs.Sending.{grantNumber, freshSender, senderGood, sendOf, acknowledgeVerdict, acknowledgeOf};
 use refusal::Refusal;
 use refusal::Verdict;
 use sequence::PacketNumber;
@@ -60,42 +60,32 @@ impl Sender {
         self.edge.0 <= 15 && self.next.0 <= 15
     }
 
-    // Whether a packet may be sent, checked in the order 14, 9.
-    fn check_send(self) -> Verdict
-        ensures { λ r. ⌜ r ≡ sendVerdict self ⌝ }
-    {
-        if self.in_order() {
-            let edge = self.edge;
-            let next = self.next;
-            if edge.distance_to(next) <= 14 {
-                Verdict::Done
-            } else {
-                Verdict::Refused(Refusal::WindowClosed)
-            }
-        } else {
-            Verdict::Refused(Refusal::NotInOrder)
-        }
-    }
-
-    // Asks for a PS to send the next packet with.
+    // Asks for a PS to send the next packet with, checked in the order 14, 9.
     pub fn send(self) -> Sent
         ensures { λ r. ⌜ r ≡ sendOf self ⌝ }
     {
         let edge = self.edge;
         let next = self.next;
-        let verdict = self.check_send();
-        match verdict {
-            Verdict::Done => Sent {
-                answer: Grant::Granted(next),
-                end: Sender {
-                    edge: edge,
-                    next: next.next(),
-                },
-            },
-            Verdict::Refused(why) => Sent {
-                answer: Grant::Refused(why),
+        if self.in_order() {
+            if edge.distance_to(next) <= 14 {
+                Sent {
+                    answer: Grant::Granted(next),
+                    end: Sender {
+                        edge: edge,
+                        next: next.next(),
+                    },
+                }
+            } else {
+                Sent {
+                    answer: Grant::Refused(Refusal::WindowClosed),
+                    end: self,
+                }
+            }
+        } else {
+            Sent {
+                answer: Grant::Refused(Refusal::NotInOrder),
                 end: self,
-            },
+            }
         }
     }
 

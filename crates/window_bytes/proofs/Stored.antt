@@ -21,6 +21,13 @@ two-written (a ∷ []) x y h = absurd (omega arith)
 two-written (a ∷ c ∷ []) x y h = refl
 two-written (a ∷ c ∷ d ∷ b) x y h = absurd (omega arith)
 
+-- of a list of two only the second is written
+pub next-written : (b : List ℕ) (y : ℕ) → length b ≡ 2 → set b 1 y ≡ getD b 0 0 ∷ y ∷ []
+next-written [] y h = absurd (omega arith)
+next-written (a ∷ []) y h = absurd (omega arith)
+next-written (a ∷ c ∷ []) y h = refl
+next-written (a ∷ c ∷ d ∷ b) y h = absurd (omega arith)
+
 pub three-written : (b : List ℕ) (x y z : ℕ) → length b ≡ 3 → set (set (set b 0 x) 1 y) 2 z ≡ x ∷ y ∷ z ∷ []
 three-written [] x y z h = absurd (omega arith)
 three-written (a ∷ []) x y z h = absurd (omega arith)

@@ -3,7 +3,7 @@
 // are refused like an end that is not in good order. specs/Stored.antt says what each byte is.
 ghost use mathlib.Core.Path.{_≡_};
 ghost use lib.ListN.{length};
-ghost use Rattle.window_bytes.specs.Stored.{senderIn, senderBytes, isReceiver, receiverIn, receiverBytes, flag, grantCode, receiptCode, tellingCode, freshSenderCode, freshSenderBytes, senderOrder, sendCode, sendBytes, acknowledgeCode, acknowledgeBytes, freshReceiverCode, freshReceiverBytes, receiverOrder, receiveCode, receiveBytes, tellCode, tellBytes};
+ghost use Rattle.window_bytes.specs.Stored.{senderIn, senderBytes, isReceiver, receiverIn, receiverBytes, flag, tellingCode, freshSenderCode, freshSenderBytes, senderOrder, sendCode, sendBytes, acknowledgeCode, acknowledgeBytes, freshReceiverCode, freshReceiverBytes, receiverOrder, receiveCode, receiveBytes, tellCode, tellBytes};
 use receiver::Receipt;
 use receiver::Receiver;
 use receiver::Telling;
@@ -36,16 +36,6 @@ fn put_sender(state: &mut [u8], end: Sender)
     state[1] = end.next.0;
 }
 
-// A grant as a number.
-fn grant_code(answer: Grant) -> u32
-    ensures { λ r. ⌜ r ≡ grantCode answer ⌝ }
-{
-    match answer {
-        Grant::Granted(ps) => 256 * ps.0 as u32,
-        Grant::Refused(why) => why.number() as u32,
-    }
-}
-
 // Writes an end that has sent nothing, whatever the bytes were.
 pub fn sender_fresh(state: &mut [u8]) -> u32
     ensures { λ r. ⌜ r ≡ freshSenderCode (now (state .entry)) ⌝ }
@@ -71,7 +61,7 @@ pub fn sender_in_order(state: &[u8]) -> u32
     }
 }
 
-// Asks for a PS to send the next packet with; the value is that PS.
+// Asks for a PS to send the next packet with; the value is that PS. Only a grant writes, and only the next PS.
 pub fn sender_send(state: &mut [u8]) -> u32
     ensures { λ r. ⌜ r ≡ sendCode (now (state .entry)) ⌝ }
     ensures { λ _. ⌜ now (state .exit) ≡ sendBytes (now (state .entry)) ⌝ }
@@ -80,8 +70,14 @@ pub fn sender_send(state: &mut [u8]) -> u32
         let end = sender_in(state);
         let sent = end.send();
         let answer = sent.answer;
-        put_sender(state, sent.end);
-        grant_code(answer)
+        match answer {
+            Grant::Granted(ps) => {
+                let after = sent.end;
+                state[1] = after.next.0;
+                256 * ps.0 as u32
+            }
+            Grant::Refused(why) => why.number() as u32,
+        }
     } else {
         NOT_IN_ORDER
     }
@@ -141,16 +137,6 @@ fn put_receiver(state: &mut [u8], end: Receiver)
     state[2] = end.untold;
 }
 
-// A receipt as a number.
-fn receipt_code(answer: Receipt) -> u32
-    ensures { λ r. ⌜ r ≡ receiptCode answer ⌝ }
-{
-    match answer {
-        Receipt::Taken { due } => 256 * flag_of(due) as u32,
-        Receipt::Refused(why) => why.number() as u32,
-    }
-}
-
 // A telling as a number.
 fn telling_code(answer: Telling) -> u32
     ensures { λ r. ⌜ r ≡ tellingCode answer ⌝ }
@@ -186,7 +172,7 @@ pub fn receiver_in_order(state: &[u8]) -> u32
     }
 }
 
-// Takes the PS of a packet that came in; the value is 1 where PR is due.
+// Takes the PS of a packet that came in; the value is 1 where PR is due. Only a PS that is taken writes.
 pub fn receiver_receive(state: &mut [u8], ps: u8) -> u32
     ensures { λ r. ⌜ r ≡ receiveCode (now (state .entry)) ps ⌝ }
     ensures { λ _. ⌜ now (state .exit) ≡ receiveBytes (now (state .entry)) ps ⌝ }
@@ -195,8 +181,13 @@ pub fn receiver_receive(state: &mut [u8], ps: u8) -> u32
         let end = receiver_in(state);
         let received = end.receive(PacketNumber(ps));
         let answer = received.answer;
-        put_receiver(state, received.end);
-        receipt_code(answer)
+        match answer {
+            Receipt::Taken { due } => {
+                put_receiver(state, received.end);
+                256 * flag_of(due) as u32
+            }
+            Receipt::Refused(why) => why.number() as u32,
+        }
     } else {
         NOT_IN_ORDER
     }

@@ -1,13 +1,14 @@
 -- `resequencer_bytes::clock_end` meets its contract: memory of another size is refused, else the step that the numbers take tells the whole answer.
 -- Assumes nothing.
-use mathlib.Core.Path.{refl, sym, subst}
+use mathlib.Core.Path.{refl, sym, _∙_, subst}
 use borrow.Author.Needs.{needs}
 use Rattle.resequencer.specs.declared.Step.{Step}
 use Rattle.resequencer.specs.Events.{clockEndOf}
 use Rattle.resequencer.specs.Numbers.{StepFits}
 use Rattle.resequencer.proofs.Steps.{end-fits, end-told}
 use Rattle.resequencer_bytes.specs.Stored.{stateIn}
-use Rattle.resequencer_bytes.proofs.Calls.{no-state, no-places, end-stays, done, as-written, stored-fit}
+use Rattle.resequencer_bytes.proofs.Steps.{clock-tells}
+use Rattle.resequencer_bytes.proofs.Calls.{no-state, no-places, end-stays, done, as-written}
 use Rattle.resequencer_bytes.proofs.clock_end.Statement.{statement}
 use Rattle.resequencer_bytes.proofs.clock_end.Tie as tie
 
@@ -21,19 +22,19 @@ returns-2 c =
 
 answer-requires : tie.Need-answer-requires
 answer-requires c κs =
-    let a = c .before .before .before .before .before .before .before .before .before .before .before .before .args in
-    (c .before .before .before .before .before .before .before .before .before .if1 .left, (c .before .before .before .before .before .before .before .before .if2 .left, (c .before .before .before .before .before .before .numbers-in .ensures, subst (λ (s : Step). StepFits (c .before .before .before .before .before .before .numbers-in .result .nesn .0) s 0 (a .sn) 0) (sym (c .before .before .clock-end .ensures)) (end-fits _ _ (a .sn)))))
+    let a = c .before .before .before .before .before .before .before .before .before .before .before .args in
+    let m = c .before .before .before .numbers-in .ensures in
+    let t = clock-tells (stateIn (a .state .now)) _ (c .before .before .before .before .before .tickets-in-order .ensures) _ m (a .sn) _ (c .before .before .clock-end .ensures) in
+    let fits = subst (λ (s : Step). StepFits (c .before .before .before .numbers-in .result .nesn .0) s 0 (a .sn) 0) (sym (c .before .before .clock-end .ensures)) (end-fits _ _ (a .sn)) in
+    (c .before .before .before .before .before .before .before .before .if1 .left, (c .before .before .before .before .before .before .before .if2 .left, (m, (fits, (t .0, λ h k. t .1 h k ∙ sym m)))))
 
 returns-3 : tie.Need-returns-3
 returns-3 c =
-    let a = c .before .before .before .before .before .before .before .before .before .before .before .before .before .before .before .before .before .args in
+    let a = c .before .before .before .before .before .before .before .before .before .before .before .before .before .before .before .before .args in
     let b = a .state .now in
-    let l = c .before .before .before .before .before .before .before .before .before .before .before .before .before .before .if1 .left in
-    let m = c .before .before .before .before .before .before .before .before .before .before .before .numbers-in .ensures in
-    let fits = stored-fit b _ _ l m (c .before .before .before .before .before .before .before .before .tickets-in-order .ensures) in
-    done _ (clockEndOf (stateIn b) (a .sn)) b (a .tickets .now) _ _ _ l (c .before .before .before .before .before .before .before .before .before .before .before .before .before .if2 .left)
-    (λ i h. c .before .before .before .before .before .before .before .before .before .before .before .before .before .before .before .before .slice-known .given i .fits)
-    (end-told (stateIn b) _ _ (a .sn) 0 _ m _ fits (c .before .before .before .before .before .before .before .clock-end .ensures) refl)
+    done _ (clockEndOf (stateIn b) (a .sn)) b (a .tickets .now) _ _ _ (c .before .before .before .before .before .before .before .before .before .before .before .before .before .if1 .left) (c .before .before .before .before .before .before .before .before .before .before .before .before .if2 .left)
+    (λ i h. c .before .before .before .before .before .before .before .before .before .before .before .before .before .before .before .slice-known .given i .fits)
+    (end-told (stateIn b) _ _ (a .sn) 0 _ (c .before .before .before .before .before .before .before .before .numbers-in .ensures) _ (c .before .before .before .before .before .before .before .before .before .before .tickets-in-order .ensures) (c .before .before .before .before .before .before .before .clock-end .ensures) refl)
     (end-stays (stateIn b) (a .sn))
     (as-written (stateIn b) _ 0 (a .sn) 0 b (a .tickets .now) _ _ _ (c .before .before .before .before .answer .ensures))
 
@@ -44,9 +45,6 @@ clock-end-spec =
     returns
     returns-2
     (λ c κs. search needs)
-    (λ c. search needs)
-    (λ c. search needs)
-    (λ c. search needs)
     (λ c κs. search needs)
     (λ c κs. search needs)
     answer-requires

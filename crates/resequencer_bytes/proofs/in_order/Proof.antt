@@ -6,7 +6,7 @@ use Rattle.wordset.specs.Sets.{digit}
 use Rattle.resequencer.specs.Numbers.{numbersInOrder}
 use Rattle.resequencer.proofs.Steps.{order-told, order-stray}
 use Rattle.resequencer_bytes.specs.Stored.{stateIn}
-use Rattle.resequencer_bytes.proofs.Calls.{stored-fit, order-none, order-code}
+use Rattle.resequencer_bytes.proofs.Calls.{order-none, order-code}
 use Rattle.resequencer_bytes.proofs.in_order.Statement.{statement}
 use Rattle.resequencer_bytes.proofs.in_order.Tie as tie
 
@@ -15,24 +15,20 @@ returns c = order-none (c .before .before .args .state .now) (c .if1 .taken)
 
 returns-2 : tie.Need-returns-2
 returns-2 c =
-    let b = c .before .before .before .before .before .before .before .before .args .state .now in
-    let l = c .before .before .before .before .before .before .if1 .left in
+    let b = c .before .before .before .before .before .before .before .args .state .now in
     ap digit (sym (c .if3 .taken))
-    ∙ order-code b _ l (order-told (stateIn b) _ _ (stored-fit b _ _ l (c .before .before .before .before .before .numbers-in .ensures) (c .before .before .before .tickets-in-order .ensures)) (c .before .before .if2 .taken) (c .before .in-order .ensures ∙ ap numbersInOrder (c .before .before .before .before .before .numbers-in .ensures)))
+    ∙ order-code b _ (c .before .before .before .before .before .if1 .left) (order-told (stateIn b) _ _ (c .before .before .before .before .tickets-in-order .ensures) (c .before .before .before .if2 .taken) (c .before .in-order .ensures ∙ ap numbersInOrder (c .before .before .numbers-in .ensures)))
 
 returns-3 : tie.Need-returns-3
 returns-3 c =
-    let b = c .before .before .before .before .before .before .before .before .args .state .now in
-    let l = c .before .before .before .before .before .before .if1 .left in
+    let b = c .before .before .before .before .before .before .before .args .state .now in
     ap digit (sym (c .if3 .left))
-    ∙ order-code b _ l (order-told (stateIn b) _ _ (stored-fit b _ _ l (c .before .before .before .before .before .numbers-in .ensures) (c .before .before .before .tickets-in-order .ensures)) (c .before .before .if2 .taken) (c .before .in-order .ensures ∙ ap numbersInOrder (c .before .before .before .before .before .numbers-in .ensures)))
+    ∙ order-code b _ (c .before .before .before .before .before .if1 .left) (order-told (stateIn b) _ _ (c .before .before .before .before .tickets-in-order .ensures) (c .before .before .before .if2 .taken) (c .before .in-order .ensures ∙ ap numbersInOrder (c .before .before .numbers-in .ensures)))
 
 returns-4 : tie.Need-returns-4
 returns-4 c =
-    let b = c .before .before .before .before .before .before .args .state .now in
-    let l = c .before .before .before .before .if1 .left in
-    ap digit (sym (c .if2 .left))
-    ∙ order-code b _ l (order-stray (stateIn b) _ (stored-fit b _ _ l (c .before .before .before .numbers-in .ensures) (c .before .tickets-in-order .ensures)) (c .if2 .left))
+    let b = c .before .before .before .before .args .state .now in
+    ap digit (sym (c .if2 .left)) ∙ order-code b _ (c .before .before .if1 .left) (order-stray (stateIn b) _ (c .before .tickets-in-order .ensures) (c .if2 .left))
 
 pub in-order-spec : {M : Type 1} → statement M
 in-order-spec =
@@ -40,9 +36,6 @@ in-order-spec =
     (tie.spec
     returns
     (λ c κs. search needs)
-    (λ c. search needs)
-    (λ c. search needs)
-    (λ c. search needs)
     (λ c κs. search needs)
     (λ c κs. search needs)
     returns-2

@@ -1,28 +1,30 @@
--- `window_bytes::sender_send` meets its contract: on an encoded end the call answers and moves it, and else nothing is written.
+-- `window_bytes::sender_send` meets its contract: a grant writes the next PS, and a refusal and other bytes write nothing.
 -- Assumes nothing.
 use mathlib.Core.Path.{_≡_, refl, ap, _∙_}
 use borrow.Author.Needs.{needs}
-use borrow.Author.Tests.{eq-eqb, ne-eqb}
-use Rattle.sender.specs.declared.Sender.{Sender}
-use Rattle.sender.specs.declared.Sent.{Sent}
+use borrow.Author.Tests.{ne-eqb}
 use Rattle.sender.specs.Sending.{sendOf}
-use Rattle.window_bytes.specs.Stored.{senderIn, senderBytes, grantCode, isSender, sendCode, sendBytes}
+use Rattle.window_bytes.specs.Stored.{isSender, senderIn, sendCode, sendBytes}
+use Rattle.window_bytes.proofs.Calls.{granted, not-granted}
 use Rattle.window_bytes.proofs.sender_send.Statement.{statement}
 use Rattle.window_bytes.proofs.sender_send.Tie as tie
 
+sent : (c : tie.After-send) → c .send .result ≡ sendOf (senderIn (c .before .before .before .before .before .args .state .now))
+sent c = c .send .ensures ∙ ap sendOf (c .before .sender-in .ensures)
+
 returns : tie.Need-returns
-unfolding isSender sendCode sendBytes
 returns c =
-    let a = c .before .before .before .before .before .before .before .before .before .before .args in
-    let e : c .before .before .before .before .before .send .result ≡ sendOf (senderIn (a .state .now)) = c .before .before .before .before .before .send .ensures ∙ ap (λ (s : Sender). sendOf s) (c .before .before .before .before .before .before .sender-in .ensures) in
-    rw (eq-eqb _ _ (c .before .before .before .before .before .before .before .before .if1 .taken)) (
-      c .grant-code .ensures ∙ ap (λ (r : Sent). grantCode (r .answer)) e,
-      c .before .before .before .put-sender .ensures ∙ ap (λ (r : Sent). senderBytes (r .end)) e,
-    )
+    let s = c .before .before .before .before .before in
+    granted _ (s .before .before .before .if1 .taken) _ (sent s) _ (c .before .before .before .answer .given .1)
 
 returns-2 : tie.Need-returns-2
+returns-2 c =
+    let s = c .before .before .before .before in
+    not-granted _ (s .before .before .before .if1 .taken) _ (sent s) _ (c .before .before .answer2 .given .1) _ (c .number .ensures)
+
+returns-3 : tie.Need-returns-3
 unfolding isSender sendCode sendBytes
-returns-2 c = rw (ne-eqb _ _ (c .if1 .left)) (refl, refl)
+returns-3 c = rw (ne-eqb _ _ (c .if1 .left)) (refl, refl)
 
 pub sender-send-spec : {M : Type 1} → statement M
 sender-send-spec =
@@ -30,8 +32,15 @@ sender-send-spec =
     (tie.spec
     (λ c κs. search needs)
     (λ c κs. search needs)
-    (λ c κs. search needs)
+    (λ c. search needs)
+    (λ c. search needs)
+    (λ c. search needs)
+    (λ c. search needs)
+    (λ c. search needs)
     (λ c κs. search needs)
     (λ c. search needs)
+    (λ c. search needs)
     returns
-    returns-2)
+    (λ c. search needs)
+    returns-2
+    returns-3)

@@ -1,10 +1,13 @@
--- `receiver::Receiver::check_receive` meets its contract: each way out knows the tests that led there.
+-- `receiver::Receiver::check_receive` meets its contract: each way out knows the tests that led there, and the expected PS is in its field.
 -- Assumes nothing.
 use mathlib.Core.Path.{_≡_, sym, _∙_}
 use mathlib.Core.Bool.{true}
+use native.Mathlib.Omega.{arith}
 use borrow.Author.Needs.{needs}
-use borrow.Author.Tests.{eq-eqb, ne-eqb}
+use borrow.Author.Tests.{eq-eqb, ne-eqb, lt-ltb}
+use Rattle.sequence.specs.Numbers.{inField}
 use Rattle.receiver.specs.Receiving.{receiverGood, receiveVerdict}
+use Rattle.receiver.proofs.Order.{bounds}
 use Rattle.receiver.proofs.Receiver.check_receive.Statement.{statement}
 use Rattle.receiver.proofs.Receiver.check_receive.Tie as tie
 
@@ -13,15 +16,19 @@ good c = sym (c .before .in-order .ensures) ∙ c .if1 .taken
 
 returns : tie.Need-returns
 unfolding receiveVerdict
-returns c = simp (good (c .before .before .before .before .before), sym (c .before .before .before .before .in-field .ensures) ∙ c .before .before .before .if2 .taken, eq-eqb _ _ (c .if3 .taken))
+returns c =
+    let g = good (c .before .before .before) in
+    let a = c .before .before .before .before .before .args in
+    let f : inField 16 (a .ps .0) ≡ true = lt-ltb (a .ps .0) 16 (omega (arith, bounds _ g .0, c .if2 .taken)) in
+    simp (g, f, eq-eqb _ _ (c .if2 .taken))
 
 returns-2 : tie.Need-returns-2
 unfolding receiveVerdict
-returns-2 c = simp (good (c .before .before .before .before .before .before), sym (c .before .before .before .before .before .in-field .ensures) ∙ c .before .before .before .before .if2 .taken, ne-eqb _ _ (c .before .if3 .left), c .other .ensures)
+returns-2 c = simp (good (c .before .before .before .before .before .before), sym (c .before .before .in-field .ensures) ∙ c .before .if3 .taken, ne-eqb _ _ (c .before .before .before .if2 .left), c .other .ensures)
 
 returns-3 : tie.Need-returns-3
 unfolding receiveVerdict
-returns-3 c = simp (good (c .before .before), sym (c .before .in-field .ensures) ∙ c .if2 .left)
+returns-3 c = simp (good (c .before .before .before .before .before), sym (c .before .in-field .ensures) ∙ c .if3 .left)
 
 returns-4 : tie.Need-returns-4
 unfolding receiveVerdict

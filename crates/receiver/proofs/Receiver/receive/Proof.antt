@@ -2,9 +2,15 @@
 -- Assumes nothing.
 use mathlib.Core.Path.{sym, _∙_}
 use borrow.Author.Needs.{needs}
-use Rattle.receiver.specs.Receiving.{receiveOf}
+use Rattle.refusal.proofs.Checks.{check-done}
+use Rattle.receiver.specs.Receiving.{receiveVerdict, receiveOf}
+use Rattle.receiver.proofs.Order.{bounds}
 use Rattle.receiver.proofs.Receiver.receive.Statement.{statement}
 use Rattle.receiver.proofs.Receiver.receive.Tie as tie
+
+one-more-requires : tie.Need-one-more-requires
+unfolding receiveVerdict
+one-more-requires c κs = bounds _ (check-done _ _ _ (sym (c .before .before .check-receive .ensures) ∙ c .enum-told .given .1) .0) .1
 
 returns : tie.Need-returns
 unfolding receiveOf
@@ -20,7 +26,7 @@ receive-spec =
     (tie.spec
     (λ c κs. search needs)
     (λ c. search needs)
-    (λ c κs. search needs)
+    one-more-requires
     (λ c κs. search needs)
     (λ c. search needs)
     returns

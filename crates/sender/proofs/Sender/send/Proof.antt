@@ -1,20 +1,29 @@
--- `sender::Sender::send` meets its contract: the verdict tells which case of `sendOf` holds.
+-- `sender::Sender::send` meets its contract: each way out knows the tests that led there.
 -- Assumes nothing.
-use mathlib.Core.Path.{sym, _∙_}
+use mathlib.Core.Path.{_≡_, sym, _∙_}
+use mathlib.Core.Bool.{true}
 use borrow.Author.Needs.{needs}
-use Rattle.sender.specs.Sending.{sendOf}
+use borrow.Author.Tests.{le-leb, lt-leb}
+use Rattle.sender.specs.Sending.{senderGood, sendVerdict, sendOf}
 use Rattle.sender.proofs.Sender.send.Statement.{statement}
 use Rattle.sender.proofs.Sender.send.Tie as tie
 
+good : (c : tie.Then1) → senderGood (c .before .before .before .before .args .self) ≡ true
+good c = sym (c .before .in-order .ensures) ∙ c .if1 .taken
+
 returns : tie.Need-returns
-unfolding sendOf
-returns c = simp (sym (c .before .before .before .check-send .ensures) ∙ c .before .enum-told .given .1, c .next2 .ensures)
+unfolding sendVerdict sendOf
+returns c = simp (good (c .before .before .before), ← (c .before .before .distance-to .ensures), le-leb _ _ (c .before .if2 .taken), c .next2 .ensures)
 
 returns-2 : tie.Need-returns-2
-unfolding sendOf
-returns-2 c = simp (sym (c .before .before .before .check-send .ensures) ∙ c .before .verdict .given .1)
+unfolding sendVerdict sendOf
+returns-2 c = simp (good (c .before .before), ← (c .before .distance-to .ensures), lt-leb _ _ (c .if2 .left))
+
+returns-3 : tie.Need-returns-3
+unfolding sendVerdict sendOf
+returns-3 c = simp (sym (c .before .in-order .ensures) ∙ c .if1 .left)
 
 pub send-spec : {M : Type 1} → statement M
 send-spec =
     tie.close
-    (tie.spec (λ c κs. search needs) (λ c. search needs) (λ c κs. search needs) (λ c. search needs) returns returns-2)
+    (tie.spec (λ c κs. search needs) (λ c κs. search needs) (λ c κs. search needs) returns returns-2 returns-3)

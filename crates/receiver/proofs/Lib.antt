@@ -1,0 +1,2 @@
+-- What is proved of the receiving end.
+pub mod Order
