@@ -1,7 +1,7 @@
 -- What is known of a frame that is read.
 -- Assumes nothing.
 use mathlib.Core.Path.{_≡_}
-use mathlib.Core.Bool.{false}
+use mathlib.Core.Bool.{true, false}
 use mathlib.Core.List.{List}
 use Prim.Native.Nat.{ℕ, _+_, _<_, _≤_}
 use native.Mathlib.Numerals.{add-one}
@@ -28,9 +28,13 @@ zero-step i s h e = rw (add-one, drop-cons s i 0 h, e)
 pub nonzero-step : (i : ℕ) (s : List ℕ) → i < length s → eqb (getD s i 0) 0 ≡ false → allZero (drop i s) ≡ false
 nonzero-step i s h e = rw (drop-cons s i 0 h, e)
 
--- a frame of the right shape has at least one segment
-pub shape-some : (f : Form) (len : ℕ) → shapeVerdict f len ≡ Done → segOf f ≤ len
+-- a frame of the right shape has whole segments
+pub shape-whole : (f : Form) (len : ℕ) → shapeVerdict f len ≡ Done → wholeSegments (segOf f) len ≡ true
 unfolding shapeVerdict
-shape-some f len e =
+shape-whole f len e =
     let p = check-done (formGood f) OutOfRange (check (wholeSegments (segOf f) len) Malformed Done) e in
-    whole-some (segOf f) len (segment-some f) (check-done (wholeSegments (segOf f) len) Malformed Done (p .1) .0)
+    check-done (wholeSegments (segOf f) len) Malformed Done (p .1) .0
+
+-- and at least one
+pub shape-some : (f : Form) (len : ℕ) → shapeVerdict f len ≡ Done → segOf f ≤ len
+shape-some f len e = whole-some (segOf f) len (segment-some f) (shape-whole f len e)

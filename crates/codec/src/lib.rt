@@ -2,10 +2,11 @@
 // that is read. What a header holds is for the crate above.
 ghost use mathlib.Core.Path.{_≡_};
 ghost use mathlib.Core.List.{_++_};
-ghost use Prim.Native.Nat.{_+_, _-_, _≤_};
-ghost use lib.ListN.{length, drop, replicate};
+ghost use Prim.Native.Nat.{_+_, _-_, _%_, _≤_};
+ghost use lib.ListN.{length, take, drop, replicate};
 ghost use lib.Seq.{paste};
 ghost use Rattle.form.specs.Forms.{segOf, mostOf};
+ghost use Rattle.form.specs.Segments.{padding};
 ghost use Rattle.fields.specs.Rows.{bytesOf};
 ghost use Rattle.codec.specs.Frames.{allZero};
 ghost use Rattle.codec.specs.Writing.{writtenNumber, writeVerdict, putOf, putOutput};
@@ -72,8 +73,34 @@ fn put_number(out: &mut [u8], k: usize, n: u64)
     }
 }
 
-// Copies user data into out, from index at.
-fn copy_in(out: &mut [u8], at: usize, user: &[u8])
+// Sixteen bytes of user data, from index at.
+fn block_at(user: &[u8], at: usize) -> [u8; 16]
+    requires { ⌜ at + 16 ≤ length (now user) ⌝ }
+    ensures { λ r. ⌜ r ≡ take 16 (drop at (now (user .entry))) ⌝ }
+{
+    let mut block = [0u8; 16];
+    let mut i = 0;
+    while i < 16 {
+        block[i] = user[at + i];
+        i = i + 1;
+    }
+    block
+}
+
+// Writes sixteen bytes into out, from index at.
+fn put_block(out: &mut [u8], at: usize, block: [u8; 16])
+    requires { ⌜ (at + 16 ≤ length (now out)) × (length block ≡ 16) ⌝ }
+    ensures { λ _. ⌜ now (out .exit) ≡ paste (now (out .entry)) at block 16 ⌝ }
+{
+    let mut i = 0;
+    while i < 16 {
+        out[at + i] = block[i];
+        i = i + 1;
+    }
+}
+
+// Copies user data into out, from index at, a byte at a time.
+fn copy_few(out: &mut [u8], at: usize, user: &[u8])
     requires { ⌜ at + length (now user) ≤ length (now out) ⌝ }
     ensures { λ _. ⌜ now (out .exit) ≡ paste (now (out .entry)) at (now (user .entry)) (length (now (user .entry))) ⌝ }
 {
@@ -82,6 +109,25 @@ fn copy_in(out: &mut [u8], at: usize, user: &[u8])
         out[at + i] = user[i];
         i = i + 1;
     }
+}
+
+// Copies user data into out, from index at, a block at a time. A block is read whole before it is written, so that a compiler need not know that the two
+// lists do not overlap; the last one ends where the user data ends, over bytes of the one before it.
+fn copy_in(out: &mut [u8], at: usize, user: &[u8])
+    requires { ⌜ at + length (now user) ≤ length (now out) ⌝ }
+    ensures { λ _. ⌜ now (out .exit) ≡ paste (now (out .entry)) at (now (user .entry)) (length (now (user .entry))) ⌝ }
+{
+    if user.len() < 16 {
+        copy_few(out, at, user);
+        return;
+    }
+    let last = user.len() - 16;
+    let mut i = 0;
+    while i < last {
+        put_block(out, at + i, block_at(user, i));
+        i = i + 16;
+    }
+    put_block(out, at + last, block_at(user, last));
 }
 
 // Clears n bytes of out, from index at.
@@ -96,24 +142,42 @@ fn clear(out: &mut [u8], at: usize, n: usize)
     }
 }
 
+// Clears the segment that ends with so many bytes of padding after n bytes, where there is padding: what stands before these is written afterwards. A segment
+// has one of two sizes that are known beforehand, so that two stores do it.
+fn clear_padding(form: Form, out: &mut [u8], n: usize, pad: usize)
+    requires { ⌜ (pad ≤ segOf form) × (1 ≤ pad → segOf form ≤ n + pad) × (n + pad ≤ length (now out)) ⌝ }
+    ensures { λ _. ⌜ drop n (now (out .exit)) ≡ replicate pad 0 ++ drop (n + pad) (now (out .entry)) ⌝ }
+{
+    if pad == 0 {
+        return;
+    }
+    let end = n + pad;
+    if form.segment() == 7 {
+        clear(out, end - 7, 7);
+    } else {
+        clear(out, end - 10, 10);
+    }
+}
+
 // Writes a header of so many bytes, the user data and the padding to the front of out.
-fn put_frame(out: &mut [u8], size: usize, number: u64, user: &[u8], pad: usize)
-    requires { ⌜ size + length (now user) + pad ≤ length (now out) ⌝ }
+fn put_frame(form: Form, out: &mut [u8], size: usize, number: u64, user: &[u8], pad: usize)
+    requires { ⌜ (pad ≤ segOf form) × (1 ≤ pad → segOf form ≤ size + length (now user) + pad) × (size + length (now user) + pad ≤ length (now out)) ⌝ }
     ensures { λ _. ⌜ now (out .exit) ≡ (bytesOf size number ++ (now (user .entry) ++ replicate pad 0))
         ++ drop (size + length (now (user .entry)) + pad) (now (out .entry)) ⌝ }
 {
+    clear_padding(form, out, size + user.len(), pad);
     put_number(out, size, number);
     copy_in(out, size, user);
-    clear(out, size + user.len(), pad);
 }
 
-// Whether a packet of n bytes may be written into so much room, checked in the order 1, 13, 5.
-fn check_put(form: Form, fits: bool, n: usize, room: usize) -> Verdict
+// Whether a packet of n bytes and its padding may be written into so much room, checked in the order 1, 13, 5.
+fn check_put(form: Form, fits: bool, n: usize, pad: usize, room: usize) -> Verdict
+    requires { ⌜ pad ≡ padding (segOf form) n ⌝ }
     ensures { λ r. ⌜ r ≡ writeVerdict form fits n room ⌝ }
 {
     if form.is_good() && fits {
         if n <= form.most() {
-            if n + form.padding(n) <= room {
+            if n + pad <= room {
                 Verdict::Done
             } else {
                 Verdict::Refused(Refusal::OutputTooShort)
@@ -133,11 +197,11 @@ pub fn put(form: Form, head: Head, user: &[u8], out: &mut [u8]) -> Written
 {
     let size = head.size as usize;
     let n = size + user.len();
-    let verdict = check_put(form, head.fits, n, out.len());
+    let pad = form.padding(n);
+    let verdict = check_put(form, head.fits, n, pad, out.len());
     match verdict {
         Verdict::Done => {
-            let pad = form.padding(n);
-            put_frame(out, size, head.number, user, pad);
+            put_frame(form, out, size, head.number, user, pad);
             Written::Done(n + pad)
         }
         Verdict::Refused(why) => Written::Refused(why),
@@ -184,20 +248,20 @@ fn packet_length(extent: Extent, segment: usize, frame: &[u8]) -> usize
     }
 }
 
-// Whether n bytes are a right length. A given n may be any number, so it is held against the frame before its padding is.
+// Whether n bytes are a right length in a frame of whole segments: of a given n, less than a segment is left.
 fn is_right_length(form: Form, extent: Extent, size: usize, n: usize, len: usize) -> bool
-    requires { ⌜ n ≡ packetLength extent (segOf form) len ⌝ }
+    requires { ⌜ (n ≡ packetLength extent (segOf form) len) × (len % segOf form ≡ 0) ⌝ }
     ensures { λ r. ⌜ r ≡ lengthGood extent (segOf form) size len ⌝ }
 {
     match extent {
         Extent::ByLv(u) => 1 <= u && (u as usize <= form.segment() && size <= n),
-        Extent::Exactly(_n) => size <= n && (n <= len && len - n == form.padding(n)),
+        Extent::Exactly(_n) => size <= n && (n <= len && len - n < form.segment()),
     }
 }
 
-// The length of the user data in a frame of at least one segment, checked in the order 3, 13.
+// The length of the user data in a frame of at least one segment and whole ones, checked in the order 3, 13.
 fn content_length(form: Form, frame: &[u8], seen: Seen) -> UserLength
-    requires { ⌜ segOf form ≤ length (now frame) ⌝ }
+    requires { ⌜ (segOf form ≤ length (now frame)) × (length (now frame) % segOf form ≡ 0) ⌝ }
     ensures { λ r. ⌜ r ≡ userLengthBy (contentVerdict (segOf form) (mostOf form) (now (frame .entry)) seen)
         (packetLength (seen .extent) (segOf form) (length (now (frame .entry))) - seen .size) ⌝ }
 {

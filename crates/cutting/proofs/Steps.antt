@@ -1,12 +1,14 @@
 -- The loop that writes the frames: what it keeps, how it starts, what it asks, how it goes on and ends.
 -- Assumes nothing.
 use mathlib.Core.Path.{_≡_, refl, sym, ap, ap₂, _∙_, subst}
-use mathlib.Core.Bool.{Bool, true, false}
+use mathlib.Core.Bool.{Bool, true, false, cond}
 use mathlib.Core.List.{List, [], _∷_, _++_, append-assoc}
 use Prim.Native.Nat.{ℕ, zero, suc, _+_, _-_, _<_, _≤_}
 use native.Mathlib.Omega.{arith}
+use lib.Dec.{ltb}
 use lib.ListN.{length, take, drop, set, length-drop}
-use lib.Seq.{drop-drop, length-take-le}
+use lib.Seq.{drop-drop, take-all, length-take-le}
+use borrow.Author.Tests.{ltb-true, ltb-false}
 use Rattle.refusal.specs.declared.Verdict.the-variants.{Done}
 use Rattle.lists.specs.Frames.{bytesIn, lengthsOf}
 use Rattle.lists.specs.Lists.{over}
@@ -95,13 +97,13 @@ module _ (form : Form) (s₀ : Start) (k₀ : ℕ) (m o₀ l₀ : List ℕ) (roo
   share-length from h = length-take-le (shareOf form) (drop from m) (simp length-drop (omega (arith, h)))
 
   -- a full frame asks
-  pub turn-inside : (o l : List ℕ) (s : Start) (from p i share : ℕ) → share ≡ shareOf form → Cutting form s₀ k₀ m o₀ l₀ o l s from p i → i < k₀ → from + share ≤ length m
+  turn-inside : (o l : List ℕ) (s : Start) (from p i share : ℕ) → share ≡ shareOf form → Cutting form s₀ k₀ m o₀ l₀ o l s from p i → i < k₀ → from + share ≤ length m
   turn-inside o l s from p i share es v h = omega (arith, es, full o l s from p i v h .enough)
 
   part-is : (from share : ℕ) → share ≡ shareOf form → take (from + share - from) (drop from m) ≡ take (shareOf form) (drop from m)
   part-is from share es = let e : from + share - from ≡ shareOf form = omega (arith, es) in ap (λ (x : ℕ). take x (drop from m)) e
 
-  pub turn-ready : (o l : List ℕ) (s : Start) (from p i share : ℕ) (q : Packet) → share ≡ shareOf form → Cutting form s₀ k₀ m o₀ l₀ o l s from p i → i < k₀
+  turn-ready : (o l : List ℕ) (s : Start) (from p i share : ℕ) (q : Packet) → share ≡ shareOf form → Cutting form s₀ k₀ m o₀ l₀ o l s from p i → i < k₀
       → q ≡ dataOf s true → Ready form q (length (take (from + share - from) (drop from m))) p (length o) i (length l)
   turn-ready o l s from p i share q es v h eq =
       let f = full o l s from p i v h in
@@ -112,7 +114,7 @@ module _ (form : Form) (s₀ : Start) (k₀ : ℕ) (m o₀ l₀ : List ℕ) (roo
       (ready form s true q (length u) u p (length o) i (length l) eq refl (room .good) (v .numbers) (omega (arith, len)) (r .0) (r .1))
 
   -- a full frame was written
-  pub turns : (o l o1 l1 u : List ℕ) (s s1 : Start) (from p i share p1 : ℕ) (q : Packet) → share ≡ shareOf form → Cutting form s₀ k₀ m o₀ l₀ o l s from p i → i < k₀
+  turns : (o l o1 l1 u : List ℕ) (s s1 : Start) (from p i share p1 : ℕ) (q : Packet) → share ≡ shareOf form → Cutting form s₀ k₀ m o₀ l₀ o l s from p i → i < k₀
       → u ≡ take (from + share - from) (drop from m) → q ≡ dataOf s true → s1 ≡ nextStart s → o1 ≡ splice p (frameOf form q u) o → l1 ≡ set l i (length (frameOf form q u))
       → p1 ≡ p + length (frameOf form q u) → Cutting form s₀ k₀ m o₀ l₀ o1 l1 s1 (from + share) p1 (i + 1)
   turns o l o1 l1 u s s1 from p i share p1 q es v h eu eq en eo el ep =
@@ -151,7 +153,7 @@ module _ (form : Form) (s₀ : Start) (k₀ : ℕ) (m o₀ l₀ : List ℕ) (roo
       (r .2, r .3)
 
   -- it asks
-  pub last-ready : (o l u : List ℕ) (s : Start) (from p i : ℕ) (q : Packet) → Cutting form s₀ k₀ m o₀ l₀ o l s from p i → k₀ ≤ i → u ≡ drop from m → q ≡ dataOf s false
+  last-ready : (o l u : List ℕ) (s : Start) (from p i : ℕ) (q : Packet) → Cutting form s₀ k₀ m o₀ l₀ o l s from p i → k₀ ≤ i → u ≡ drop from m → q ≡ dataOf s false
       → Ready form q (length u) p (length o) i (length l)
   last-ready o l u s from p i q v h eu eq =
       let e = last o l s from p i v h in
@@ -160,7 +162,7 @@ module _ (form : Form) (s₀ : Start) (k₀ : ℕ) (m o₀ l₀ : List ℕ) (roo
       (omega (arith, ap length eu, length-drop from m, e .0)) (r .0) (r .1)
 
   -- it was written, and all frames are
-  pub ends : (o l o1 l1 u : List ℕ) (s : Start) (from p i p1 : ℕ) (q : Packet) → Cutting form s₀ k₀ m o₀ l₀ o l s from p i → k₀ ≤ i → u ≡ drop from m → q ≡ dataOf s false
+  ends : (o l o1 l1 u : List ℕ) (s : Start) (from p i p1 : ℕ) (q : Packet) → Cutting form s₀ k₀ m o₀ l₀ o l s from p i → k₀ ≤ i → u ≡ drop from m → q ≡ dataOf s false
       → o1 ≡ splice p (frameOf form q u) o → l1 ≡ set l i (length (frameOf form q u)) → p1 ≡ p + length (frameOf form q u)
       → (Frames (i + 1) p1 ≡ cutBy Done (framesOf form s₀ m)) × (o1 ≡ over (bytesIn (framesOf form s₀ m)) o₀) × (l1 ≡ over (lengthsOf (framesOf form s₀ m)) l₀)
   ends o l o1 l1 u s from p i p1 q v h eu eq eo el ep =
@@ -168,3 +170,42 @@ module _ (form : Form) (s₀ : Start) (k₀ : ℕ) (m o₀ l₀ : List ℕ) (roo
       let w = subst (λ (x : List (List ℕ)). Written x o₀ l₀ o1 l1 p1 (i + 1)) (e .1)
       (one-written (v .fs) _ _ _ o₀ l₀ o l o1 l1 _ p i p1 (v .text) (e .1) (room .frames) (ap₂ (frameOf form) eq eu) eo el ep) in
       (ap₂ Frames (sym (w .lens-at)) (sym (w .out-at)), w .out, w .lens)
+
+  -- ---- a frame, full or the last: more says that it is a full one
+
+  -- the part of the message that the last frame carries
+  part-rest : (from to : ℕ) → to ≡ length m → take (to - from) (drop from m) ≡ drop from m
+  part-rest from to e = take-all (to - from) (drop from m) (omega (arith, e, length-drop from m))
+
+  -- it asks
+  pub asked : (o l : List ℕ) (s : Start) (from p i share to : ℕ) (q : Packet) (more : Bool) → share ≡ shareOf form → Cutting form s₀ k₀ m o₀ l₀ o l s from p i
+      → ltb i k₀ ≡ more → to ≡ cond more (from + share) (length m) → q ≡ dataOf s more
+      → (from ≤ to) × (to ≤ length m) × Ready form q (length (take (to - from) (drop from m))) p (length o) i (length l)
+  asked o l s from p i share to q true es v em et eq =
+      let h = ltb-true i k₀ em in
+      let inside = turn-inside o l s from p i share es v h in (
+        omega (arith, et),
+        omega (arith, et, inside),
+        subst (λ (x : ℕ). Ready form q (length (take (x - from) (drop from m))) p (length o) i (length l)) (sym et) (turn-ready o l s from p i share q es v h eq),
+      )
+  asked o l s from p i share to q false es v em et eq =
+      (omega (arith, et, v .inside), omega (arith, et), last-ready o l _ s from p i q v (ltb-false i k₀ em) (part-rest from to et) eq)
+
+  -- it was written: the loop goes on
+  pub goes-on : (o l o1 l1 u : List ℕ) (s s1 : Start) (from p i share to p1 : ℕ) (q : Packet) (more : Bool) → share ≡ shareOf form
+      → Cutting form s₀ k₀ m o₀ l₀ o l s from p i → ltb i k₀ ≡ more → more ≡ true → to ≡ cond more (from + share) (length m) → q ≡ dataOf s more
+      → u ≡ take (to - from) (drop from m) → s1 ≡ nextStart s → o1 ≡ splice p (frameOf form q u) o → l1 ≡ set l i (length (frameOf form q u))
+      → p1 ≡ p + length (frameOf form q u) → Cutting form s₀ k₀ m o₀ l₀ o1 l1 s1 to p1 (i + 1)
+  goes-on o l o1 l1 u s s1 from p i share to p1 q true es v em t et eq eu en eo el ep =
+      subst (λ (x : ℕ). Cutting form s₀ k₀ m o₀ l₀ o1 l1 s1 x p1 (i + 1)) (sym et)
+      (turns o l o1 l1 u s s1 from p i share p1 q es v (ltb-true i k₀ em) (eu ∙ ap (λ (x : ℕ). take (x - from) (drop from m)) et) eq en eo el ep)
+  goes-on o l o1 l1 u s s1 from p i share to p1 q false es v em t et eq eu en eo el ep = let z : _≡_ {A = ℕ} 0 1 = cc in absurd (omega arith)
+
+  -- or all frames are
+  pub finished : (o l o1 l1 u : List ℕ) (s : Start) (from p i share to p1 : ℕ) (q : Packet) (more : Bool) → Cutting form s₀ k₀ m o₀ l₀ o l s from p i
+      → ltb i k₀ ≡ more → more ≡ false → to ≡ cond more (from + share) (length m) → q ≡ dataOf s more → u ≡ take (to - from) (drop from m)
+      → o1 ≡ splice p (frameOf form q u) o → l1 ≡ set l i (length (frameOf form q u)) → p1 ≡ p + length (frameOf form q u)
+      → (Frames (i + 1) p1 ≡ cutBy Done (framesOf form s₀ m)) × (o1 ≡ over (bytesIn (framesOf form s₀ m)) o₀) × (l1 ≡ over (lengthsOf (framesOf form s₀ m)) l₀)
+  finished o l o1 l1 u s from p i share to p1 q true v em t et eq eu eo el ep = let z : _≡_ {A = ℕ} 0 1 = cc in absurd (omega arith)
+  finished o l o1 l1 u s from p i share to p1 q false v em t et eq eu eo el ep =
+      ends o l o1 l1 u s from p i p1 q v (ltb-false i k₀ em) (eu ∙ part-rest from to et) eq eo el ep

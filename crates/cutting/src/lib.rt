@@ -1,6 +1,6 @@
 // A message cut into DATA frames (document 01, "Cutting and joining").
 ghost use mathlib.Core.Path.{_≡_};
-ghost use mathlib.Core.Bool.{true, false};
+ghost use mathlib.Core.Bool.{true, false, cond};
 ghost use Prim.Native.Nat.{_+_, _*_, _≤_};
 ghost use lib.ListN.{length, set};
 ghost use Rattle.lists.specs.Frames.{bytesIn, lengthsOf};
@@ -55,20 +55,20 @@ impl Start {
         (self.sn.0 < 64) & (self.ps.0 < 16) & (self.pr.0 < 16) & (self.ch < 16)
     }
 
-    // The packet with these numbers; M says whether more of the message follows.
-    fn packet(self, more: bool) -> Packet
-        ensures { λ r. ⌜ r ≡ dataOf self more ⌝ }
+    // The DATA packet with these numbers; M says whether more of the message follows.
+    fn packet(self, more: bool) -> Data
+        ensures { λ r. ⌜ Packet.Data r ≡ dataOf self more ⌝ }
     {
         let sn = self.sn;
         let ps = self.ps;
         let pr = self.pr;
-        Packet::Data(Data {
+        Data {
             m: more,
             sn: sn,
             ps: ps,
             pr: pr,
             ch: self.ch,
-        })
+        }
     }
 
     // What the frame after this one has.
@@ -156,26 +156,34 @@ fn check_cut(form: Form, start: Start, message: &[u8], room: usize, places: usiz
 // Writes one frame into its part of the output, from index at, and its length to place i of the list; tells where the frame ends.
 fn put_one(
     form: Form,
-    packet: Packet,
+    packet: Data,
     user: &[u8],
     out: &mut [u8],
     at: usize,
     lengths: &mut [usize],
     i: usize,
 ) -> usize
-    requires { ⌜ Ready form packet (length (now user)) at (length (now out)) i (length (now lengths)) ⌝ }
-    ensures { λ r. ⌜ r ≡ at + length (frameOf form packet (now (user .entry))) ⌝ }
-    ensures written { λ _. ⌜ now (out .exit) ≡ splice at (frameOf form packet (now (user .entry))) (now (out .entry)) ⌝ }
-    ensures listed { λ _. ⌜ now (lengths .exit) ≡ set (now (lengths .entry)) i (length (frameOf form packet (now (user .entry)))) ⌝ }
+    requires { ⌜ Ready form (Packet.Data packet) (length (now user)) at (length (now out)) i (length (now lengths)) ⌝ }
+    ensures { λ r. ⌜ r ≡ at + length (frameOf form (Packet.Data packet) (now (user .entry))) ⌝ }
+    ensures written { λ _. ⌜ now (out .exit) ≡ splice at (frameOf form (Packet.Data packet) (now (user .entry))) (now (out .entry)) ⌝ }
+    ensures listed { λ _. ⌜ now (lengths .exit) ≡ set (now (lengths .entry)) i (length (frameOf form (Packet.Data packet) (now (user .entry)))) ⌝ }
 {
     let len = frame_length(form, user.len());
     let end = at + len;
-    frame::write_frame(form, packet, user, &mut out[at..end]);
+    frame::write_data(form, packet, user, &mut out[at..end]);
     lengths[i] = len;
     end
 }
 
-// Writes all frames of a message that may be cut.
+// Where the part of a message of n bytes ends that a frame carries: a full share, or what is left.
+fn part_end(more: bool, from: usize, share: usize, n: usize) -> usize
+    requires { ⌜ (from ≤ 4096) × (share ≤ 157) ⌝ }
+    ensures { λ r. ⌜ r ≡ cond more (from + share) n ⌝ }
+{
+    if more { from + share } else { n }
+}
+
+// Writes all frames of a message that may be cut. The last is written by the same call as those before it, so that a compiler puts it into the loop.
 fn put_frames(
     form: Form,
     start: Start,
@@ -194,31 +202,27 @@ fn put_frames(
     let mut from = 0;
     let mut at = 0;
     let mut i = 0;
-    while i < full {
-        let to = from + share;
-        at = put_one(
+    loop {
+        let more = i < full;
+        let to = part_end(more, from, share, message.len());
+        let end = put_one(
             form,
-            next.packet(true),
+            next.packet(more),
             &message[from..to],
             out,
             at,
             lengths,
             i,
         );
-        next = next.next();
-        from = to;
-        i = i + 1;
+        if more {
+            next = next.next();
+            from = to;
+            at = end;
+            i = i + 1;
+        } else {
+            return Cut::Frames(i + 1, end);
+        }
     }
-    let end = put_one(
-        form,
-        next.packet(false),
-        &message[from..],
-        out,
-        at,
-        lengths,
-        i,
-    );
-    Cut::Frames(i + 1, end)
 }
 
 // Cuts a message into DATA frames: each is written straight into its part of the lent output, and its length into the lent list.

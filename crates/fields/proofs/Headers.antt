@@ -1,16 +1,15 @@
 -- Headers: what is put into the fields is found in them, and what is found in them makes the same header again.
 -- Assumes nothing.
-use mathlib.Core.Path.{_≡_, refl, sym, ap, _∙_, subst}
+use mathlib.Core.Path.{_≡_, refl, sym, ap}
 use mathlib.Core.Bool.{Bool, true, false, _&&_}
 use mathlib.Core.List.{List, [], _∷_}
 use Prim.Native.Nat.{ℕ, _^_, _≤_}
 use native.Mathlib.Omega.{arith}
 use lib.Dec.{ltb, eqb}
-use borrow.Author.Tests.{ltb-true, eqb-true, lt-ltb, eq-eqb, ne-eqb}
+use borrow.Author.Tests.{ltb-true, eqb-true, lt-ltb, eq-eqb}
 use Rattle.refusal.proofs.Checks.{both-true}
-use Rattle.fields.specs.Rows.{pack, unpack, InRange}
+use Rattle.fields.specs.Rows.{InRange}
 use Rattle.fields.specs.Layouts.{Field, fixed, free, lv, widths, hasLv, allValues, within, freeValues, lvIn, fixedRight}
-use Rattle.fields.proofs.Rows.{unpack-pack}
 
 -- each fixed value is within its width, and LV's width holds m
 abbrev pub holds : ℕ → List Field → Bool
@@ -89,20 +88,3 @@ free-within (free w ∷ fs) [] h = absurd h
 free-within (fixed w v ∷ fs) (x ∷ xs) h = free-within fs xs (h .1)
 free-within (lv w ∷ fs) (x ∷ xs) h = free-within fs xs (h .1)
 free-within (free w ∷ fs) (x ∷ xs) h = rw (lt-ltb x (2 ^ w) (h .0)) (free-within fs xs (h .1))
-
--- the fixed fields are right exactly if the header written anew from the values is the same number: one test for all of them
-pub right-by-number : (m u : ℕ) (fs : List Field) (xs : List ℕ) → u ≤ m → holds m fs ≡ true → InRange (widths fs) xs
-    → fixedRight fs u xs ≡ eqb (pack (widths fs) (allValues fs u (freeValues fs xs))) (pack (widths fs) xs)
-right-by-number m u fs xs hu hs hx = go (fixedRight fs u xs) refl
-  where
-    again : InRange (widths fs) (allValues fs u (freeValues fs xs))
-    again = values-range m u fs (freeValues fs xs) hu hs (free-within fs xs hx)
-
-    back : pack (widths fs) (allValues fs u (freeValues fs xs)) ≡ pack (widths fs) xs → fixedRight fs u xs ≡ true
-    back e = subst (λ (t : List ℕ). fixedRight fs u t ≡ true)
-        (sym (unpack-pack 0 (widths fs) (allValues fs u (freeValues fs xs)) again) ∙ ap (unpack (widths fs)) e ∙ unpack-pack 0 (widths fs) xs hx)
-        (right-back u fs (freeValues fs xs))
-
-    go : (b : Bool) → fixedRight fs u xs ≡ b → fixedRight fs u xs ≡ eqb (pack (widths fs) (allValues fs u (freeValues fs xs))) (pack (widths fs) xs)
-    go true e = e ∙ sym (eq-eqb _ _ (ap (pack (widths fs)) (values-again u fs xs e)))
-    go false e = e ∙ sym (ne-eqb _ _ (λ q. let t = back q in let z : _≡_ {A = ℕ} 0 1 = cc in omega arith))

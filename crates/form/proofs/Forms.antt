@@ -1,15 +1,17 @@
 -- The forms' segments and packets, a line a form.
 -- Assumes nothing.
-use mathlib.Core.Path.{_≡_}
-use mathlib.Core.Bool.{true}
-use Prim.Native.Nat.{ℕ, _-_, _≤_}
+use mathlib.Core.Path.{_≡_, refl, sym}
+use mathlib.Core.Bool.{Bool, true, false}
+use Prim.Native.Nat.{ℕ, _+_, _-_, _*_, _/_, _%_, _<_, _≤_}
 use native.Mathlib.Omega.{arith}
-use lib.Dec.{leb}
-use borrow.Author.Tests.{leb-true, eq-eqb, ne-eqb}
+use lib.Dec.{leb, ltb, eqb}
+use borrow.Author.Tests.{leb-true, ltb-true, ltb-false, eq-eqb, ne-eqb}
 use Rattle.refusal.proofs.Checks.{both-true}
 use Rattle.form.specs.declared.Form.{Form}
 use Rattle.form.specs.declared.Form.the-variants.{ShortUplink, LongUplink, LongDownlink}
 use Rattle.form.specs.Forms.{segOf, mostOf, formGood, formAt}
+use Rattle.form.specs.Segments.{frameLength}
+use Rattle.form.proofs.Segments.{padding-below, frame-whole}
 
 pub segment-some : (form : Form) → 1 ≤ segOf form
 segment-some ShortUplink = omega arith
@@ -22,6 +24,18 @@ segment-few ShortUplink = omega arith
 segment-few LongUplink = omega arith
 segment-few (LongDownlink n) = omega arith
 
+-- every segment holds a header
+pub segment-seven : (form : Form) → 7 ≤ segOf form
+segment-seven ShortUplink = omega arith
+segment-seven LongUplink = omega arith
+segment-seven (LongDownlink n) = omega arith
+
+-- a segment that is not the short one
+pub segment-long : (form : Form) → (segOf form ≡ 7 → ⊥) → segOf form ≡ 10
+segment-long ShortUplink n = absurd (n refl)
+segment-long LongUplink n = refl
+segment-long (LongDownlink k) n = refl
+
 -- of a form that there is
 pub most-range : (form : Form) → formGood form ≡ true → (10 ≤ mostOf form) × (mostOf form ≤ 160)
 most-range ShortUplink e = omega arith
@@ -29,6 +43,41 @@ most-range LongUplink e = omega arith
 most-range (LongDownlink n) e =
     let p = both-true (leb 1 n) (leb n 16) e in
     omega (arith, leb-true 1 n (p .0), leb-true n 16 (p .1))
+
+-- the segments that hold k bytes, by the reciprocal: their bytes are few, hold k, and those over k are what fills up k
+pub record Filled (form : Form) (k s r : ℕ) : Type 0 where
+  pub product : (k + s - 1) * r ≤ 739677
+  pub few : (k + s - 1) * r / 65536 * s ≤ 79
+  pub hold : k ≤ (k + s - 1) * r / 65536 * s
+  pub rest : (k + s - 1) * r / 65536 * s - k ≤ 9
+  pub over : (k + s - 1) * r / 65536 * s - k ≡ (segOf form - k % segOf form) % segOf form
+
+pub filled : (form : Form) (k s r : ℕ) → k < 70 → s ≡ segOf form → r ≡ 65535 / segOf form + 1 → Filled form k s r
+filled ShortUplink k s r h es er = rw (es, er) (record { product = omega arith; few = omega arith; hold = omega arith; rest = omega arith; over = omega arith })
+filled LongUplink k s r h es er = rw (es, er) (record { product = omega arith; few = omega arith; hold = omega arith; rest = omega arith; over = omega arith })
+filled (LongDownlink n) k s r h es er = rw (es, er) (record { product = omega arith; few = omega arith; hold = omega arith; rest = omega arith; over = omega arith })
+
+-- a segment divides 70
+pub past-seventy : (form : Form) (n : ℕ) → n % 70 % segOf form ≡ n % segOf form
+past-seventy ShortUplink n = omega arith
+past-seventy LongUplink n = omega arith
+past-seventy (LongDownlink m) n = omega arith
+
+-- ---- a frame of whole segments
+
+-- n bytes with less than a segment after them are filled up to the whole
+whole-next : (form : Form) (len n : ℕ) → len % segOf form ≡ 0 → n ≤ len → len - n < segOf form → len ≡ frameLength (segOf form) n
+whole-next ShortUplink len n m h l = omega (arith, frame-whole 7 n (omega arith), padding-below 7 n (omega arith))
+whole-next LongUplink len n m h l = omega (arith, frame-whole 10 n (omega arith), padding-below 10 n (omega arith))
+whole-next (LongDownlink k) len n m h l = omega (arith, frame-whole 10 n (omega arith), padding-below 10 n (omega arith))
+
+-- and no others are
+pub whole-by : (form : Form) (len n : ℕ) → len % segOf form ≡ 0 → n ≤ len → ltb (len - n) (segOf form) ≡ eqb len (frameLength (segOf form) n)
+whole-by form len n m h = go (ltb (len - n) (segOf form)) refl
+  where
+    go : (b : Bool) → ltb (len - n) (segOf form) ≡ b → b ≡ eqb len (frameLength (segOf form) n)
+    go true e = sym (eq-eqb len (frameLength (segOf form) n) (whole-next form len n m h (ltb-true (len - n) (segOf form) e)))
+    go false e = sym (ne-eqb len (frameLength (segOf form) n) (λ w. omega (arith, w, ltb-false (len - n) (segOf form) e, padding-below (segOf form) n (segment-some form))))
 
 -- ---- the form that a number stands for
 

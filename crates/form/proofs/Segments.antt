@@ -6,7 +6,7 @@ use Prim.Native.Nat.{ℕ, zero, suc, _+_, _-_, _*_, _/_, _%_, _<_, _≤_}
 use native.Mathlib.Nat.{mod-lt, mod-self, mod-eq-of-lt, div-add-mod', mul-add-mod-self-right, mul-mod-left, zero-mul, suc-mul}
 use native.Mathlib.Omega.{arith}
 use lib.Dec.{leb, eqb}
-use borrow.Author.Tests.{leb-true, eqb-true, eqb-false}
+use borrow.Author.Tests.{leb-true, eq-eqb, ne-eqb, eqb-true, eqb-false}
 use Rattle.refusal.proofs.Checks.{both-true}
 use Rattle.form.specs.Segments.{padding, lastUsed, frameLength, wholeSegments}
 
@@ -30,6 +30,17 @@ pub padding-some : (seg n : ℕ) → 1 ≤ seg → 1 ≤ n % seg → padding seg
 unfolding padding
 padding-some seg n some e = mod-eq-of-lt (omega (arith, mod-lt n some))
 
+-- no padding is wanted exactly by whole segments
+pub padding-zero : (seg n : ℕ) → 1 ≤ seg → eqb (padding seg n) 0 ≡ eqb (n % seg) 0
+padding-zero seg n some = go (eqb (n % seg) 0) refl
+  where
+    go : (b : Bool) → eqb (n % seg) 0 ≡ b → eqb (padding seg n) 0 ≡ b
+    go true e = eq-eqb (padding seg n) 0 (padding-none seg n some (eqb-true (n % seg) 0 e))
+    go false e =
+        let ne : n % seg ≡ 0 → ⊥ = eqb-false (n % seg) 0 e in
+        let pos : 1 ≤ n % seg = omega (arith, ne) in
+        ne-eqb (padding seg n) 0 (λ z. omega (arith, z, padding-some seg n some pos, mod-lt n some))
+
 -- a frame is so many segments
 pub segments : (seg n : ℕ) → 1 ≤ seg → (q : ℕ) × (frameLength seg n ≡ q * seg)
 segments seg n some = go (eqb (n % seg) 0) refl
@@ -44,17 +55,20 @@ segments seg n some = go (eqb (n % seg) 0) refl
 pub frame-whole : (seg n : ℕ) → 1 ≤ seg → frameLength seg n % seg ≡ 0
 frame-whole seg n some = let s = segments seg n some in ap (λ (x : ℕ). x % seg) (s .1) ∙ mul-mod-left (s .0) seg
 
--- a packet of at least one byte has at least one segment, and its length is that of the full ones and the bytes used in the last
-pub length-less : (seg n : ℕ) → 1 ≤ seg → 1 ≤ n → (seg ≤ frameLength seg n) × (frameLength seg n - seg + lastUsed seg n ≡ n)
-unfolding lastUsed
-length-less seg n some more =
-    let s = segments seg n some in
-    let full : seg ≤ frameLength seg n = go (s .0) (s .1) in
-    (full, omega (arith, full, padding-below seg n some))
+-- a frame that has bytes has at least one segment
+pub frame-some : (seg n : ℕ) → 1 ≤ seg → 1 ≤ frameLength seg n → seg ≤ frameLength seg n
+frame-some seg n some more = let s = segments seg n some in go (s .0) (s .1)
   where
     go : (q : ℕ) → frameLength seg n ≡ q * seg → seg ≤ frameLength seg n
     go zero e = absurd (omega (arith, e, zero-mul seg))
     go (suc q) e = omega (arith, e, suc-mul q seg)
+
+-- a packet of at least one byte has at least one segment, and its length is that of the full ones and the bytes used in the last
+pub length-less : (seg n : ℕ) → 1 ≤ seg → 1 ≤ n → (seg ≤ frameLength seg n) × (frameLength seg n - seg + lastUsed seg n ≡ n)
+unfolding lastUsed
+length-less seg n some more =
+    let full : seg ≤ frameLength seg n = frame-some seg n some (omega arith) in
+    (full, omega (arith, full, padding-below seg n some))
 
 -- len bytes of whole segments with u used in the last
 module _ (seg len u : ℕ) (multiple : len % seg ≡ 0) (more : 1 ≤ len) (low : 1 ≤ u) (high : u ≤ seg) where
@@ -94,7 +108,11 @@ module _ (seg len u : ℕ) (multiple : len % seg ≡ 0) (more : 1 ≤ len) (low 
   pub length-back : frameLength seg (len - seg + u) ≡ len
   length-back = omega (arith, padding-back, at-least-one .1, suc-mul (at-least-one .0) seg)
 
--- whole segments are at least one
+-- whole segments leave nothing over, and are at least one
+pub whole-none-over : (seg len : ℕ) → wholeSegments seg len ≡ true → len % seg ≡ 0
+unfolding wholeSegments
+whole-none-over seg len w = eqb-true (len % seg) 0 (both-true (leb 1 len) (eqb (len % seg) 0) w .1)
+
 pub whole-some : (seg len : ℕ) → 1 ≤ seg → wholeSegments seg len ≡ true → seg ≤ len
 unfolding wholeSegments
 whole-some seg len some w =

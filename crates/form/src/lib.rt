@@ -1,6 +1,6 @@
 // The forms of a frame, and how a packet's bytes fill their segments (document 01, "Forms and frames").
 ghost use mathlib.Core.Path.{_≡_};
-ghost use Prim.Native.Nat.{_%_, _≤_};
+ghost use Prim.Native.Nat.{_+_, _/_, _≤_};
 ghost use Rattle.form.specs.Forms.{segOf, mostOf, formGood, formAt};
 ghost use Rattle.form.specs.Segments.{padding, lastUsed, wholeSegments};
 
@@ -60,39 +60,41 @@ impl Form {
         }
     }
 
-    // The bytes that n bytes have past their last whole segment. A processor divides by a number that is known beforehand far quicker than by any.
-    fn past_segment(self, n: usize) -> usize
-        ensures { λ r. ⌜ r ≡ n % segOf self ⌝ }
+    // 65,536 over the segment, rounded up.
+    fn reciprocal(self) -> usize
+        ensures { λ r. ⌜ r ≡ 65535 / segOf self + 1 ⌝ }
     {
         match self {
-            Form::ShortUplink => n % 7,
-            Form::LongUplink => n % 10,
-            Form::LongDownlink(_n) => n % 10,
+            Form::ShortUplink => 9363,
+            Form::LongUplink => 6554,
+            Form::LongDownlink(_n) => 6554,
         }
     }
 
-    // The zero bytes that fill n bytes up to whole segments.
+    // The zero bytes that fill n bytes up to whole segments. Every segment divides 70, and a number below 80 is divided by a segment with its reciprocal:
+    // there is no case of the form in this, so that a compiler sees where it is told twice.
     pub fn padding(self, n: usize) -> usize
         ensures { λ r. ⌜ r ≡ padding (segOf self) n ⌝ }
         ensures few { λ r. ⌜ r ≤ 9 ⌝ }
     {
-        let past = self.past_segment(n);
-        if past == 0 { 0 } else { self.segment() - past }
+        let segment = self.segment();
+        let past = n % 70;
+        let segments = (past + segment - 1) * self.reciprocal() / 65536;
+        segments * segment - past
     }
 
     // LV of a packet of n bytes: those used in its last segment.
-    pub fn last_used(self, n: usize) -> u8
+    pub fn last_used(self, n: usize) -> usize
         ensures { λ r. ⌜ r ≡ lastUsed (segOf self) n ⌝ }
         ensures few { λ r. ⌜ (1 ≤ r) × (r ≤ 10) ⌝ }
     {
-        let used = self.segment() - self.padding(n);
-        used as u8
+        self.segment() - self.padding(n)
     }
 
     // Whether so many bytes are a whole number of segments, at least one.
     pub fn is_whole(self, len: usize) -> bool
         ensures { λ r. ⌜ r ≡ wholeSegments (segOf self) len ⌝ }
     {
-        1 <= len && self.past_segment(len) == 0
+        1 <= len && self.padding(len) == 0
     }
 }

@@ -11,9 +11,7 @@ use lib.ListN.{getD, drop}
 use lib.Seq.{getD-drop, drop-drop}
 use borrow.Author.Tests.{ltb-true, lt-ltb, eqb-true}
 use Rattle.refusal.proofs.Checks.{both-true}
-use Rattle.fields.specs.Rows.{total, eights}
-use Rattle.fields.specs.Layouts.{Field, fixed, free, lv, fields, widths, within}
-use Rattle.fields.proofs.Headers.{holds}
+use Rattle.fields.specs.Layouts.{Field, fixed, free, lv, fields, within}
 use Rattle.frame.specs.declared.Kind.{Kind}
 use Rattle.frame.specs.declared.Kind.the-variants.{Data as DataKind, ClearRequest as ClearRequestKind, ClearConfirmation as ClearConfirmationKind}
 use Rattle.frame.specs.declared.Packet.{Packet}
@@ -48,27 +46,16 @@ kept (fixed w v ∷ fs) vs i = kept fs vs i
 kept (lv w ∷ fs) vs i = kept fs vs i
 kept (free w ∷ fs) vs i = cond (eqb w 1) (flag (eqb (getD vs i 0) 1)) (getD vs i 0) ∷ kept fs vs (suc i)
 
--- LV, where there is one, is the last field and has four bits
-abbrev pub lvLast : List Field → Bool
-lvLast [] = true
-lvLast (fixed w v ∷ fs) = lvLast fs
-lvLast (free w ∷ fs) = lvLast fs
-lvLast (lv w ∷ []) = eqb w 4
-lvLast (lv w ∷ f ∷ fs) = false
-
--- the fields fill the header's bytes; fixed values and LV fit; LV stands last; a packet made of values has the kind, and keeps them
+-- a packet made of values has the kind, and keeps them
 pub record Facts (k : Kind) : Type 0 where
-  pub bits : total (widths (fields (layoutOf k))) ≡ total (eights (layoutOf k .size))
-  pub held : holds 15 (fields (layoutOf k)) ≡ true
-  pub last : lvLast (fields (layoutOf k)) ≡ true
   pub made : (vs : List ℕ) → kindOf (packetOf k vs) ≡ k
   pub keeps : (vs : List ℕ) → valuesOf (packetOf k vs) ≡ kept (fields (layoutOf k)) vs 0
 
 -- by computation
 pub facts : (k : Kind) → Facts k
-facts DataKind = record { bits = refl; held = refl; last = refl; made = λ vs. refl; keeps = λ vs. refl }
-facts ClearRequestKind = record { bits = refl; held = refl; last = refl; made = λ vs. refl; keeps = λ vs. refl }
-facts ClearConfirmationKind = record { bits = refl; held = refl; last = refl; made = λ vs. refl; keeps = λ vs. refl }
+facts DataKind = record { made = λ vs. refl; keeps = λ vs. refl }
+facts ClearRequestKind = record { made = λ vs. refl; keeps = λ vs. refl }
+facts ClearConfirmationKind = record { made = λ vs. refl; keeps = λ vs. refl }
 
 -- a packet is made of its kind and its values
 pub packet-made : (p : Packet) → packetOf (kindOf p) (valuesOf p) ≡ p
@@ -77,14 +64,6 @@ packet-made (ClearRequest d) = simp flag-read
 packet-made (ClearConfirmation d) = refl
 
 -- ---- what follows for every kind
-
--- the fields fill the header's bytes
-pub kind-bits : (k : Kind) → total (widths (fields (layoutOf k))) ≡ total (eights (layoutOf k .size))
-kind-bits k = facts k .bits
-
--- each fixed value, and every LV, is within its width
-pub kind-holds : (k : Kind) → holds 15 (fields (layoutOf k)) ≡ true
-kind-holds k = facts k .held
 
 -- a kind's packet is of that kind, and has the values of which it was made
 pub kind-made : (k : Kind) (vs : List ℕ) → kindOf (packetOf k vs) ≡ k

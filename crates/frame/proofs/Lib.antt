@@ -1,3 +1,5 @@
 -- What is proved of frames.
 pub mod KindLaws
-pub mod SeenLaws
+pub mod Heads
+pub mod Seen
+pub mod Readings

@@ -5,13 +5,18 @@ use mathlib.Core.Bool.{Bool, true, false, cond, _&&_, _||_}
 use mathlib.Core.List.{List, [], _∷_}
 use Prim.Native.Nat.{ℕ, zero, suc, _^_, _<_}
 use lib.Dec.{ltb, eqb}
-use Rattle.fields.specs.Rows.{unpack}
-use Rattle.fields.specs.Layouts.{Field, fixed, free, lv, Layout, fields, widths, hasLv, headNumber, freeValues}
-use Rattle.codec.specs.declared.Extent.{Extent}
-use Rattle.codec.specs.declared.Extent.the-variants.{ByLv, Exactly}
+use Rattle.fields.specs.Rows.{unpack, numberIn}
+use Rattle.fields.specs.Layouts.{Field, fixed, free, lv, fields, widths, headNumber, freeValues}
+use Rattle.form.specs.declared.Form.{Form}
+use Rattle.form.specs.Forms.{segOf}
+use Rattle.form.specs.Segments.{lastUsed}
+use Rattle.codec.specs.declared.Head.{Head}
+use Rattle.codec.specs.declared.Seen.{Seen}
 use Rattle.frame.specs.declared.Kind.{Kind}
 use Rattle.frame.specs.declared.Packet.{Packet}
 use Rattle.frame.specs.Packets.{layoutOf, kindOf, valuesOf, packetOf}
+use Rattle.frame.specs.Writing.{lengthOf, fits}
+use Rattle.frame.specs.Reading.{seenIn}
 
 -- b, and the values are within their fields' widths, where these are not one bit, a flag's, or eight: those that code has to test
 abbrev pub narrowAfter : Bool → List Field → List ℕ → Bool
@@ -44,6 +49,12 @@ headOf p u = headNumber (layoutOf (kindOf p)) u (valuesOf p)
 abbrev pub packetAt : Kind → ℕ → Packet
 packetAt k h = packetOf k (freeValues (fields (layoutOf k)) (unpack (widths (fields (layoutOf k))) h))
 
--- how long a packet is whose LV is u, where it has one
-abbrev pub extentAt : Layout → ℕ → Extent
-extentAt l u = cond (hasLv (fields l)) (ByLv u) (Exactly (l .size))
+-- the head of a packet with so many bytes of user data
+abbrev pub wholeHead : Form → Packet → ℕ → Head
+wholeHead form p user =
+    record { fits = fits p user; size = layoutOf (kindOf p) .size; number = headOf p (lastUsed (segOf form) (lengthOf p user)) }
+
+-- h is the number of a kind's header in a frame, and s what is seen in it
+pub record HeaderIn (k : Kind) (frame : List ℕ) (h : ℕ) (s : Seen) : Type 0 where
+  pub number : h ≡ numberIn (layoutOf k .size) frame
+  pub seen : s ≡ seenIn (layoutOf k) frame

@@ -1,13 +1,12 @@
 // Frames of the packets of the link: written into lent output, and read.
 ghost use mathlib.Core.Path.{_≡_};
-ghost use mathlib.Core.Bool.{cond};
-ghost use Prim.Native.Nat.{_*_, _^_, _<_, _≤_};
-ghost use lib.ListN.{length, getD};
+ghost use Prim.Native.Nat.{_^_, _<_, _≤_};
+ghost use lib.ListN.{length};
 ghost use Rattle.fields.specs.Rows.{numberIn};
-ghost use Rattle.fields.specs.Layouts.{fields, hasLv};
-ghost use Rattle.frame.specs.Packets.{layoutOf, kindOf, flag, kinds};
-ghost use Rattle.frame.specs.Parts.{Fits, headOf, packetAt, extentAt};
-ghost use Rattle.frame.specs.Writing.{fits, writeOf, writeOutput};
+ghost use Rattle.codec.specs.Reading.{shapeVerdict};
+ghost use Rattle.frame.specs.Packets.{flag, kinds};
+ghost use Rattle.frame.specs.Parts.{Fits, headOf, wholeHead, packetAt, HeaderIn};
+ghost use Rattle.frame.specs.Writing.{writeOf, writeOutput};
 ghost use Rattle.frame.specs.Reading.{readNumber, firstNamed, readAs, readOf, partOf};
 use codec::Extent;
 use codec::Head;
@@ -103,42 +102,10 @@ impl Read {
     }
 }
 
-// ---- what a kind is made of
-
-impl Kind {
-    // The header's bytes.
-    fn size(self) -> u8
-        ensures { λ r. ⌜ r ≡ layoutOf self .size ⌝ }
-        ensures few { λ r. ⌜ r ≤ 7 ⌝ }
-    {
-        match self {
-            Kind::Data => 3,
-            Kind::ClearRequest => 7,
-            Kind::ClearConfirmation => 4,
-        }
-    }
-
-    // Whether the header has LV, and so the packet a place for user data.
-    fn has_lv(self) -> bool
-        ensures { λ r. ⌜ r ≡ hasLv (fields (layoutOf self)) ⌝ }
-    {
-        match self {
-            Kind::Data => true,
-            Kind::ClearRequest => true,
-            Kind::ClearConfirmation => false,
-        }
-    }
-
-    // How long a packet is whose LV is u, where it has one.
-    fn extent(self, u: u8) -> Extent
-        ensures { λ r. ⌜ r ≡ extentAt (layoutOf self) u ⌝ }
-    {
-        if self.has_lv() {
-            Extent::ByLv(u)
-        } else {
-            Extent::Exactly(self.size() as usize)
-        }
-    }
+// A header as it stands in a frame: the number of its bytes, and what is seen in it.
+struct Header {
+    number: u64,
+    seen: Seen,
 }
 
 // A flag's bit.
@@ -169,6 +136,19 @@ impl Data {
         let h = h * 16 + self.pr.0 as u64;
         let h = h * 16 + self.ch as u64;
         h * 16 + lv
+    }
+
+    // The header of a frame with so many bytes of user data, and whether the packet fits.
+    fn whole_head(self, form: Form, user: usize) -> Head
+        requires { ⌜ user < 2 ^ 63 ⌝ }
+        ensures { λ r. ⌜ r ≡ wholeHead form (Packet.Data self) user ⌝ }
+    {
+        let lv = form.last_used(3 + user);
+        Head {
+            fits: self.fits(),
+            size: 3,
+            number: self.head(lv as u64),
+        }
     }
 
     fn from(h: u64) -> Data
@@ -209,6 +189,19 @@ impl ClearRequest {
         h * 16 + lv
     }
 
+    // The header of a frame with so many bytes of user data, and whether the packet fits.
+    fn whole_head(self, form: Form, user: usize) -> Head
+        requires { ⌜ user < 2 ^ 63 ⌝ }
+        ensures { λ r. ⌜ r ≡ wholeHead form (Packet.ClearRequest self) user ⌝ }
+    {
+        let lv = form.last_used(7 + user);
+        Head {
+            fits: self.fits(),
+            size: 7,
+            number: self.head(lv as u64),
+        }
+    }
+
     fn from(h: u64) -> ClearRequest
         ensures { λ r. ⌜ Packet.ClearRequest r ≡ packetAt Kind.ClearRequest h ⌝ }
     {
@@ -244,6 +237,17 @@ impl ClearConfirmation {
         h * 256 + self.ag as u64
     }
 
+    // The header of a frame, the same in every form, and whether the packet fits: user data has no place in it.
+    fn whole_head(self, user: usize) -> Head
+        ensures { λ r. ⌜ r ≡ wholeHead Form.ShortUplink (Packet.ClearConfirmation self) user ⌝ }
+    {
+        Head {
+            fits: self.fits() & (user == 0),
+            size: 4,
+            number: self.head(),
+        }
+    }
+
     fn from(h: u64) -> ClearConfirmation
         ensures { λ r. ⌜ Packet.ClearConfirmation r ≡ packetAt Kind.ClearConfirmation h ⌝ }
     {
@@ -258,39 +262,6 @@ impl ClearConfirmation {
 }
 
 impl Packet {
-    fn kind(self) -> Kind
-        ensures { λ r. ⌜ r ≡ kindOf self ⌝ }
-    {
-        match self {
-            Packet::Data(_d) => Kind::Data,
-            Packet::ClearRequest(_d) => Kind::ClearRequest,
-            Packet::ClearConfirmation(_d) => Kind::ClearConfirmation,
-        }
-    }
-
-    // Whether every field holds its value.
-    fn fields_fit(self) -> bool
-        ensures { λ r. ⌜ Fits self r ⌝ }
-    {
-        match self {
-            Packet::Data(d) => d.fits(),
-            Packet::ClearRequest(d) => d.fits(),
-            Packet::ClearConfirmation(d) => d.fits(),
-        }
-    }
-
-    // The header as one number.
-    fn head(self, lv: u64) -> u64
-        requires { ⌜ lv < 16 ⌝ }
-        ensures { λ r. ⌜ r ≡ headOf self lv ⌝ }
-    {
-        match self {
-            Packet::Data(d) => d.head(lv),
-            Packet::ClearRequest(d) => d.head(lv),
-            Packet::ClearConfirmation(d) => d.head(),
-        }
-    }
-
     // The packet of a kind whose header is the number h.
     fn from(kind: Kind, h: u64) -> Packet
         ensures { λ r. ⌜ r ≡ packetAt kind h ⌝ }
@@ -305,92 +276,138 @@ impl Packet {
 
 // ---- writing
 
-// Whether every field holds its value, and user data has a place.
-fn all_fits(packet: Packet, user: usize) -> bool
-    ensures { λ r. ⌜ r ≡ fits packet user ⌝ }
+// Writes a DATA packet and its user data as one frame to the front of lent output.
+pub fn write_data(form: Form, packet: Data, user: &[u8], out: &mut [u8]) -> Written
+    ensures { λ r. ⌜ r ≡ writeOf form (Packet.Data packet) (length (now (user .entry))) (length (now (out .entry))) ⌝ }
+    ensures written { λ _. ⌜ now (out .exit) ≡ writeOutput form (Packet.Data packet) (now (user .entry)) (now (out .entry)) ⌝ }
 {
-    let kind = packet.kind();
-    packet.fields_fit() & (kind.has_lv() | (user == 0))
+    codec::put(form, packet.whole_head(form, user.len()), user, out)
 }
 
-// Writes a packet and its user data as one frame to the front of lent output.
+// Writes a packet and its user data as one frame to the front of lent output. Each kind has a call of its own, so that a compiler knows the header's length.
 pub fn write_frame(form: Form, packet: Packet, user: &[u8], out: &mut [u8]) -> Written
     ensures { λ r. ⌜ r ≡ writeOf form packet (length (now (user .entry))) (length (now (out .entry))) ⌝ }
     ensures written { λ _. ⌜ now (out .exit) ≡ writeOutput form packet (now (user .entry)) (now (out .entry)) ⌝ }
 {
-    let size = packet.kind().size();
-    let lv = form.last_used(size as usize + user.len());
-    let head = Head {
-        fits: all_fits(packet, user.len()),
-        size: size,
-        number: packet.head(lv as u64),
-    };
-    codec::put(form, head, user, out)
+    match packet {
+        Packet::Data(d) => codec::put(form, d.whole_head(form, user.len()), user, out),
+        Packet::ClearRequest(d) => codec::put(form, d.whole_head(form, user.len()), user, out),
+        Packet::ClearConfirmation(d) => codec::put(form, d.whole_head(user.len()), user, out),
+    }
 }
 
 // ---- reading
 
-// This kind if the test holds, else what was found.
-fn found_if(test: bool, kind: Kind, found: Found) -> Found
-    ensures { λ r. ⌜ r ≡ cond test (Found.Known kind) found ⌝ }
-{
-    if test { Found::Known(kind) } else { found }
-}
-
-// The kind that a frame's first byte names: the table of kinds, the first one last, so that it comes before those after it.
-fn named(first: u64) -> Found
+// The kind that a frame's first byte names, by the table of kinds.
+fn named(first: u8) -> Found
     ensures { λ r. ⌜ r ≡ firstNamed kinds first ⌝ }
 {
-    let found = Found::Unknown;
-    let found = found_if(first / 4 == 23, Kind::ClearConfirmation, found);
-    let found = found_if(first / 4 == 22, Kind::ClearRequest, found);
-    found_if(first / 128 == 1, Kind::Data, found)
+    if first / 128 == 1 {
+        Found::Known(Kind::Data)
+    } else if first / 4 == 22 {
+        Found::Known(Kind::ClearRequest)
+    } else if first / 4 == 23 {
+        Found::Known(Kind::ClearConfirmation)
+    } else {
+        Found::Unknown
+    }
 }
 
-// A byte of the frame, 0 if it is not there.
-fn byte_at(frame: &[u8], i: usize) -> u64
-    ensures { λ r. ⌜ r ≡ getD (now (frame .entry)) i 0 ⌝ }
-    ensures small { λ r. ⌜ r < 256 ⌝ }
-{
-    if i < frame.len() { frame[i] as u64 } else { 0 }
-}
-
-// The number that the first k bytes write, the first one highest; a byte that is not there counts as 0.
+// The number that the first k bytes write, the first one highest.
 fn number_in(frame: &[u8], k: usize) -> u64
-    requires { ⌜ k ≤ 8 ⌝ }
+    requires { ⌜ (k ≤ 8) × (k ≤ length (now frame)) ⌝ }
     ensures { λ r. ⌜ r ≡ numberIn k (now (frame .entry)) ⌝ }
-    ensures small { λ r. ⌜ r < 2 ^ (8 * k) ⌝ }
 {
     let mut h: u64 = 0;
     let mut i = 0;
     while i < k {
-        h = h * 256 + byte_at(frame, i);
+        h = h * 256 + frame[i] as u64;
         i = i + 1;
     }
     h
 }
 
-// Reads a frame whose first byte names its kind, checked in the order 1, 2, 3, 13.
+// The header of a DATA packet.
+fn data_in(frame: &[u8]) -> Header
+    requires { ⌜ 7 ≤ length (now frame) ⌝ }
+    ensures { λ r. ⌜ HeaderIn Kind.Data (now (frame .entry)) (r .number) (r .seen) ⌝ }
+{
+    let h = number_in(frame, 3);
+    let seen = Seen {
+        right: h / 8388608 % 2 == 1,
+        size: 3,
+        extent: Extent::ByLv((h % 16) as u8),
+    };
+    Header {
+        number: h,
+        seen: seen,
+    }
+}
+
+// The header of a CLEAR REQUEST packet.
+fn request_in(frame: &[u8]) -> Header
+    requires { ⌜ 7 ≤ length (now frame) ⌝ }
+    ensures { λ r. ⌜ HeaderIn Kind.ClearRequest (now (frame .entry)) (r .number) (r .seen) ⌝ }
+{
+    let h = number_in(frame, 7);
+    let first = (h / 36028797018963968 % 2 == 0) & (h / 18014398509481984 % 2 == 1);
+    let kind = (h / 4503599627370496 % 4 == 1) & (h / 1125899906842624 % 4 == 2);
+    let fill = (h / 281474976710656 % 4 == 0) & (h / 32 % 4 == 0);
+    let seen = Seen {
+        right: first & kind & fill,
+        size: 7,
+        extent: Extent::ByLv((h % 16) as u8),
+    };
+    Header {
+        number: h,
+        seen: seen,
+    }
+}
+
+// The header of a CLEAR CONFIRMATION packet.
+fn confirmation_in(frame: &[u8]) -> Header
+    requires { ⌜ 7 ≤ length (now frame) ⌝ }
+    ensures { λ r. ⌜ HeaderIn Kind.ClearConfirmation (now (frame .entry)) (r .number) (r .seen) ⌝ }
+{
+    let h = number_in(frame, 4);
+    let first = (h / 2147483648 % 2 == 0) & (h / 1073741824 % 2 == 1);
+    let kind = (h / 268435456 % 4 == 1) & (h / 67108864 % 4 == 3);
+    let seen = Seen {
+        right: first & kind & (h / 16777216 % 4 == 0),
+        size: 4,
+        extent: Extent::Exactly(4),
+    };
+    Header {
+        number: h,
+        seen: seen,
+    }
+}
+
+// The header of a packet of a kind.
+fn header_in(frame: &[u8], kind: Kind) -> Header
+    requires { ⌜ 7 ≤ length (now frame) ⌝ }
+    ensures { λ r. ⌜ HeaderIn kind (now (frame .entry)) (r .number) (r .seen) ⌝ }
+{
+    match kind {
+        Kind::Data => data_in(frame),
+        Kind::ClearRequest => request_in(frame),
+        Kind::ClearConfirmation => confirmation_in(frame),
+    }
+}
+
+// Reads a frame of a kind, of at least one segment, checked in the order 1, 2, 3, 13.
 fn read_known(form: Form, frame: &[u8], kind: Kind) -> Read
+    requires { ⌜ 7 ≤ length (now frame) ⌝ }
     ensures { λ r. ⌜ r ≡ readAs (Found.Known kind) form (now (frame .entry)) ⌝ }
 {
-    let size = kind.size();
-    let number = number_in(frame, size as usize);
-    let packet = Packet::from(kind, number);
-    let lv = number % 16;
-    // the fixed fields and the fill are right exactly if the header written anew from the values is the same
-    let again = packet.head(lv);
-    let seen = Seen {
-        right: again == number,
-        size: size,
-        extent: kind.extent(lv as u8),
-    };
+    let header = header_in(frame, kind);
+    let seen = header.seen;
     let length = codec::user_length(form, frame, seen);
     match length {
         UserLength::Bytes(n) => Read::Packet(
-            packet,
+            Packet::from(kind, header.number),
             UserData {
-                at: size as usize,
+                at: seen.size as usize,
                 len: n,
             },
         ),
@@ -398,20 +415,54 @@ fn read_known(form: Form, frame: &[u8], kind: Kind) -> Read
     }
 }
 
-// Reads a frame, checked in the order 1, 2, 3, 13.
+// Reads a frame of whole segments, whose first byte names its kind.
+fn read_whole(form: Form, frame: &[u8]) -> Read
+    requires { ⌜ (7 ≤ length (now frame)) × (shapeVerdict form (length (now frame)) ≡ Verdict.Done) ⌝ }
+    ensures { λ r. ⌜ r ≡ readOf form (now (frame .entry)) ⌝ }
+{
+    let found = named(frame[0]);
+    match found {
+        Found::Known(kind) => read_known(form, frame, kind),
+        Found::Unknown => Read::Refused(Refusal::FormatError),
+    }
+}
+
+// Reads a DATA frame of whole segments.
+fn read_whole_data(form: Form, frame: &[u8]) -> Read
+    requires { ⌜ 7 ≤ length (now frame) ⌝ }
+    ensures { λ r. ⌜ r ≡ readAs (Found.Known Kind.Data) form (now (frame .entry)) ⌝ }
+{
+    let header = data_in(frame);
+    let seen = header.seen;
+    let length = codec::user_length(form, frame, seen);
+    match length {
+        UserLength::Bytes(n) => Read::Packet(
+            Packet::Data(Data::from(header.number)),
+            UserData { at: 3, len: n },
+        ),
+        UserLength::Refused(why) => Read::Refused(why),
+    }
+}
+
+// Reads a frame as DATA, whatever its first byte names.
+pub fn read_data(form: Form, frame: &[u8]) -> Read
+    ensures { λ r. ⌜ r ≡ readAs (Found.Known Kind.Data) form (now (frame .entry)) ⌝ }
+{
+    let shape = codec::check_shape(form, frame.len());
+    match shape {
+        Verdict::Done => read_whole_data(form, frame),
+        Verdict::Refused(why) => Read::Refused(why),
+    }
+}
+
+// Reads a frame, checked in the order 1, 2, 3, 13. The shape is looked at before the header is read, so that a header's bytes are there.
 pub fn read_frame(form: Form, frame: &[u8]) -> Read
     ensures { λ r. ⌜ r ≡ readOf form (now (frame .entry)) ⌝ }
 {
-    let found = named(byte_at(frame, 0));
-    match found {
-        Found::Known(kind) => read_known(form, frame, kind),
-        Found::Unknown => {
-            let shape = codec::check_shape(form, frame.len());
-            match shape {
-                Verdict::Done => Read::Refused(Refusal::FormatError),
-                Verdict::Refused(why) => Read::Refused(why),
-            }
-        }
+    let shape = codec::check_shape(form, frame.len());
+    match shape {
+        Verdict::Done => read_whole(form, frame),
+        Verdict::Refused(why) => Read::Refused(why),
     }
 }
 

@@ -125,11 +125,24 @@ fn check_packet(before: Before, last: bool, packet: Packet) -> Verdict
     }
 }
 
+// One frame, read. A frame of a message is DATA, and read as such, unless its first bit says otherwise.
+fn read_one(form: Form, frame: &[u8]) -> Read
+    ensures { λ r. ⌜ r ≡ readOf form (now (frame .entry)) ⌝ }
+{
+    if frame.len() == 0 {
+        return frame::read_frame(form, frame);
+    }
+    if frame[0] < 128 {
+        return frame::read_frame(form, frame);
+    }
+    frame::read_data(form, frame)
+}
+
 // One frame, read and checked.
 fn judge_frame(form: Form, before: Before, last: bool, frame: &[u8]) -> Turn
     ensures { λ r. ⌜ r ≡ turnOf before last (readOf form (now (frame .entry))) (now (frame .entry)) ⌝ }
 {
-    let read = frame::read_frame(form, frame);
+    let read = read_one(form, frame);
     match read {
         Read::Packet(packet, place) => {
             let verdict = check_packet(before, last, packet);

@@ -10,7 +10,8 @@ use borrow.Author.Tests.{le-leb, lt-leb}
 use Rattle.form.specs.Forms.{segOf, mostOf, formGood}
 use Rattle.form.specs.Segments.{frameLength}
 use Rattle.codec.specs.Writing.{writeVerdict}
-use Rattle.form.proofs.Forms.{most-range}
+use Rattle.form.proofs.Forms.{segment-some, segment-few, most-range}
+use Rattle.form.proofs.Segments.{padding-below}
 use Rattle.codec.proofs.check_put.Statement.{statement}
 use Rattle.codec.proofs.check_put.Tie as tie
 
@@ -25,24 +26,24 @@ small c = let a = start c .args in le-leb (a .n) (mostOf (a .form)) (omega (arit
 
 add-if4 : tie.Need-add-if4
 add-if4 c =
-    let t3 = c .before in
-    let most = most-range (start t3 .args .form) (good (t3 .before .before .before)) .1 in
-    omega (arith, most, t3 .before .most .ensures, t3 .if3 .taken, c .padding .ensures .1)
+    let a = start c .args in
+    let most = most-range (a .form) (good (c .before .before .before)) .1 in
+    omega (arith, most, c .before .most .ensures, c .if3 .taken, start c .pre, padding-below (segOf (a .form)) (a .n) (segment-some (a .form)), segment-few (a .form))
 
 returns : tie.Need-returns
 unfolding writeVerdict
 returns c =
-    let t3 = c .before .before in
+    let t3 = c .before in
     let a = start t3 .args in
-    let room = le-leb (frameLength (segOf (a .form)) (a .n)) (a .room) (omega (arith, c .before .padding .ensures .0, c .if4 .taken)) in
+    let room = le-leb (frameLength (segOf (a .form)) (a .n)) (a .room) (omega (arith, start t3 .pre, c .if4 .taken)) in
     simp (good (t3 .before .before .before), t3 .before .before .if2 .taken, small t3, room)
 
 returns-2 : tie.Need-returns-2
 unfolding writeVerdict
 returns-2 c =
-    let t3 = c .before .before in
+    let t3 = c .before in
     let a = start t3 .args in
-    let short = lt-leb (frameLength (segOf (a .form)) (a .n)) (a .room) (omega (arith, c .before .padding .ensures .0, c .if4 .left)) in
+    let short = lt-leb (frameLength (segOf (a .form)) (a .n)) (a .room) (omega (arith, start t3 .pre, c .if4 .left)) in
     simp (good (t3 .before .before .before), t3 .before .before .if2 .taken, small t3, short)
 
 returns-3 : tie.Need-returns-3
@@ -64,7 +65,6 @@ pub check-put-spec : {M : Type 1} → statement M
 check-put-spec =
     tie.close
     (tie.spec
-    (λ c κs. search needs)
     (λ c κs. search needs)
     (λ c κs. search needs)
     add-if4

@@ -44,7 +44,7 @@ right-length : (c : tie.Then2)
 right-length c = sym (c .before .is-right-length .ensures) ∙ c .if2 .taken
 
 is-right-length-requires : tie.Need-is-right-length-requires
-is-right-length-requires c κs = sym (length-is (c .before))
+is-right-length-requires c κs = (sym (length-is (c .before)), start (c .before) .pre .1)
 
 sub-user : tie.Need-sub-user
 sub-user c =

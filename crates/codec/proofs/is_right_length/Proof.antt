@@ -1,14 +1,15 @@
--- `codec::is_right_length` meets its contract: each case is that of `lengthGood`, where what follows n bytes stands for the whole frame.
+-- `codec::is_right_length` meets its contract: each case is that of `lengthGood`, where of a given length less than a segment is left.
 -- Assumes nothing.
-use mathlib.Core.Path.{_≡_, refl, sym, ap, _∙_}
-use mathlib.Core.Bool.{Bool, true, false, _&&_}
-use Prim.Native.Nat.{ℕ, _+_, _-_, _≤_, _<_}
+use mathlib.Core.Path.{_≡_, sym, ap, _∙_}
+use mathlib.Core.Bool.{false, _&&_}
+use Prim.Native.Nat.{ℕ, _+_, _-_, _<_}
 use native.Mathlib.Omega.{arith}
-use lib.Dec.{leb, eqb}
+use lib.Dec.{leb, ltb, eqb}
 use borrow.Author.Needs.{needs}
-use borrow.Author.Tests.{le-leb, lt-leb, eq-eqb, ne-eqb, eqb-true, eqb-false}
+use borrow.Author.Tests.{le-leb, lt-leb, ne-eqb}
 use Rattle.form.specs.Forms.{segOf}
 use Rattle.form.specs.Segments.{frameLength, padding}
+use Rattle.form.proofs.Forms.{whole-by}
 use Rattle.codec.specs.declared.Extent.{Extent}
 use Rattle.codec.specs.declared.Extent.the-variants.{ByLv, Exactly}
 use Rattle.codec.specs.Reading.{packetLength, lengthGood}
@@ -22,14 +23,6 @@ module _ (extent : Extent) (seg size n len : ℕ) (en : n ≡ packetLength exten
   exactly : (k : ℕ) → extent ≡ Exactly k → lengthGood extent seg size len ≡ (leb size n && eqb len (frameLength seg n))
   exactly k e = rw (en, e)
 
--- what follows n bytes is p bytes just where the whole is n + p
-rest : (len n p : ℕ) → n ≤ len → eqb (len - n) p ≡ eqb len (n + p)
-rest len n p h = go (eqb (len - n) p) refl
-  where
-    go : (b : Bool) → eqb (len - n) p ≡ b → b ≡ eqb len (n + p)
-    go true e = sym (eq-eqb len (n + p) (omega (arith, eqb-true (len - n) p e)))
-    go false e = let ne : len - n ≡ p → ⊥ = eqb-false (len - n) p e in sym (ne-eqb len (n + p) (λ w. ne (omega arith)))
-
 past : (len n p : ℕ) → len < n → eqb len (n + p) ≡ false
 past len n p h = ne-eqb len (n + p) (λ w. omega arith)
 
@@ -38,7 +31,7 @@ returns c =
     let told = c .before .before .before in
     let a = told .before .before .before .args in
     let u = told .before .extent .given .0 .0 in
-    sym (by-lv _ (segOf (a .form)) (a .size) _ _ (told .before .before .before .pre) u (told .before .extent .given .1)
+    sym (by-lv _ (segOf (a .form)) (a .size) _ _ (told .before .before .before .pre .0) u (told .before .extent .given .1)
     ∙ simp (le-leb 1 u (c .before .before .if1 .taken), le-leb u (segOf (a .form)) (omega (arith, c .before .segment .ensures .0, c .if2 .taken))))
 
 returns-2 : tie.Need-returns-2
@@ -47,7 +40,7 @@ returns-2 c =
     let a = told .before .before .before .args in
     let u = told .before .extent .given .0 .0 in
     lt-leb u (c .before .segment .result) (c .if2 .left)
-    ∙ sym (by-lv _ (segOf (a .form)) (a .size) _ _ (told .before .before .before .pre) u (told .before .extent .given .1)
+    ∙ sym (by-lv _ (segOf (a .form)) (a .size) _ _ (told .before .before .before .pre .0) u (told .before .extent .given .1)
     ∙ simp (le-leb 1 u (c .before .before .if1 .taken), lt-leb u (segOf (a .form)) (omega (arith, c .before .segment .ensures .0, c .if2 .left))))
 
 returns-3 : tie.Need-returns-3
@@ -55,22 +48,22 @@ returns-3 c =
     let a = c .before .before .before .before .args in
     let u = c .before .before .extent .given .0 .0 in
     let none : leb 1 u ≡ false = lt-leb 1 u (c .if1 .left) in
-    none ∙ sym (by-lv _ (segOf (a .form)) (a .size) _ _ (c .before .before .before .before .pre) u (c .before .before .extent .given .1) ∙ simp none)
+    none ∙ sym (by-lv _ (segOf (a .form)) (a .size) _ _ (c .before .before .before .before .pre .0) u (c .before .before .extent .given .1) ∙ simp none)
 
 returns-4 : tie.Need-returns-4
 returns-4 c =
     let told = c .before .before .before in
     let a = told .before .before .before .args in
-    sym (exactly _ (segOf (a .form)) (a .size) _ _ (told .before .before .before .pre) _ (told .before .extent2 .given .1)
+    sym (exactly _ (segOf (a .form)) (a .size) _ _ (told .before .before .before .pre .0) _ (told .before .extent2 .given .1)
     ∙ simp (le-leb (a .size) (a .n) (c .before .before .if3 .taken))
-    (sym (rest (a .len) (a .n) (padding (segOf (a .form)) (a .n)) (c .before .if4 .taken)) ∙ ap (eqb (a .len - a .n)) (sym (c .padding .ensures .0))))
+    (sym (whole-by (a .form) (a .len) (a .n) (told .before .before .before .pre .1) (c .before .if4 .taken)) ∙ ap (ltb (a .len - a .n)) (sym (c .segment2 .ensures .0))))
 
 returns-5 : tie.Need-returns-5
 returns-5 c =
     let told = c .before .before in
     let a = told .before .before .before .args in
     lt-leb (a .n) (a .len) (c .if4 .left)
-    ∙ sym (exactly _ (segOf (a .form)) (a .size) _ _ (told .before .before .before .pre) _ (told .before .extent2 .given .1)
+    ∙ sym (exactly _ (segOf (a .form)) (a .size) _ _ (told .before .before .before .pre .0) _ (told .before .extent2 .given .1)
     ∙ simp (le-leb (a .size) (a .n) (c .before .if3 .taken), past (a .len) (a .n) (padding (segOf (a .form)) (a .n)) (c .if4 .left)))
 
 returns-6 : tie.Need-returns-6
@@ -78,7 +71,7 @@ returns-6 c =
     let told = c .before in
     let a = told .before .before .before .args in
     let short : leb (a .size) (a .n) ≡ false = lt-leb (a .size) (a .n) (c .if3 .left) in
-    short ∙ sym (exactly _ (segOf (a .form)) (a .size) _ _ (told .before .before .before .pre) _ (told .before .extent2 .given .1) ∙ simp short)
+    short ∙ sym (exactly _ (segOf (a .form)) (a .size) _ _ (told .before .before .before .pre .0) _ (told .before .extent2 .given .1) ∙ simp short)
 
 pub is-right-length-spec : {M : Type 1} → statement M
 is-right-length-spec =

@@ -24,6 +24,8 @@ use Rattle.codec.specs.declared.Written.the-variants.{Done as WrittenDon
 use Rattle.codec.specs.Frames.{framed}
 use Rattle.codec.specs.Writing.{writeVerdict, putVerdict, putOf, putOutput, writtenBy, outputBy}
 use Rattle.fields.proofs.Rows.{bytes-length}
+use Rattle.form.proofs.Forms.{segment-some}
+use Rattle.form.proofs.Segments.{padding-below, frame-some}
 use Rattle.codec.proofs.Writing.{framed-length}
 use Rattle.codec.proofs.put.Statement.{statement}
 use Rattle.codec.proofs.put.Tie as tie
@@ -65,21 +67,24 @@ module _ (form : Form) (head : Head) (user out : List ℕ) where
 
 put-frame-requires : tie.Need-put-frame-requires
 put-frame-requires c κs =
-    let checked = c .before .before .before .before in
-    let a = checked .before .before .before .before .args in
+    let a = c .before .before .before .before .before .before .before .before .args in
+    let seg = segOf (a .form) in
     let n = a .head .size + length (a .user .now) in
-    omega (arith, write-room (a .form) (a .head .fits) n (length (a .out .now)) (sym (checked .check-put .ensures) ∙ c .before .before .enum-told .given .1), c .before .padding .ensures .0)
+    let pad = c .before .before .before .before .padding .ensures .0 in
+    let room = write-room (a .form) (a .head .fits) n (length (a .out .now)) (sym (c .before .before .before .check-put .ensures) ∙ c .before .enum-told .given .1) in
+    let below = padding-below seg n (segment-some (a .form)) in
+    (omega (arith, pad, below), (λ some. omega (arith, pad, some, frame-some seg n (segment-some (a .form)) (omega (arith, pad, some)))), omega (arith, room, pad))
 
 returns : tie.Need-returns
 returns c =
-    let checked = c .before .before .before .before .before .before .before in
-    let a = checked .before .before .before .before .args in
-    done (a .form) (a .head) (a .user .now) (a .out .now) (c .before .before .before .before .padding .result) (c .before .before .put-frame .last .0)
-    (sym (checked .check-put .ensures) ∙ c .before .before .before .before .before .enum-told .given .1) (c .before .before .before .before .padding .ensures .0) (c .before .before .put-frame .ensures)
+    let a = c .before .before .before .before .before .before .before .before .before .before .before .args in
+    let pad = c .before .before .before .before .before .before .before .padding in
+    done (a .form) (a .head) (a .user .now) (a .out .now) (pad .result) _
+    (sym (c .before .before .before .before .before .before .check-put .ensures) ∙ c .before .before .before .before .enum-told .given .1) (pad .ensures .0) (c .before .before .put-frame .ensures)
 
 returns-2 : tie.Need-returns-2
 returns-2 c =
-    let a = c .before .before .before .before .before .before .before .args in
+    let a = c .before .before .before .before .before .before .before .before .args in
     not-done (a .form) (a .head) (a .user .now) (a .out .now) _ (sym (c .before .before .before .check-put .ensures) ∙ c .before .verdict .given .1)
 
 pub put-spec : {M : Type 1} → statement M
@@ -89,8 +94,8 @@ put-spec =
     (λ c. search needs)
     (λ c. search needs)
     (λ c κs. search needs)
-    (λ c. search needs)
     (λ c κs. search needs)
+    (λ c. search needs)
     put-frame-requires
     (λ c. search needs)
     (λ c. search needs)

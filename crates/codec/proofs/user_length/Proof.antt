@@ -3,15 +3,19 @@
 use mathlib.Core.Path.{sym, _∙_}
 use lib.ListN.{length}
 use borrow.Author.Needs.{needs}
+use Rattle.form.specs.Forms.{segOf}
+use Rattle.form.proofs.Segments.{whole-none-over}
 use Rattle.codec.specs.Reading.{readVerdict, userLengthOf}
-use Rattle.codec.proofs.Reading.{shape-some}
+use Rattle.codec.proofs.Reading.{shape-whole, shape-some}
 use Rattle.codec.proofs.user_length.Statement.{statement}
 use Rattle.codec.proofs.user_length.Tie as tie
 
 content-length-requires : tie.Need-content-length-requires
 content-length-requires c κs =
     let a = c .before .before .before .before .args in
-    shape-some (a .form) (length (a .frame .now)) (sym (c .before .before .check-shape .ensures) ∙ c .enum-told .given .1)
+    let n = length (a .frame .now) in
+    let done = sym (c .before .before .check-shape .ensures) ∙ c .enum-told .given .1 in
+    (shape-some (a .form) n done, whole-none-over (segOf (a .form)) n (shape-whole (a .form) n done))
 
 returns : tie.Need-returns
 unfolding readVerdict userLengthOf

@@ -1,13 +1,15 @@
--- `cutting::put_frames` meets its contract: the loop writes the full frames, and the last one follows.
+-- `cutting::put_frames` meets its contract: each turn writes a frame, and the one that is not full is the last.
 -- Assumes nothing.
 use mathlib.Core.Path.{_≡_, refl, ap, _∙_}
-use Prim.Native.Nat.{ℕ, _+_, _-_, _≤_}
+use Prim.Native.Nat.{ℕ, _-_, _≤_}
 use native.Mathlib.Omega.{arith}
-use lib.ListN.{length}
+use lib.ListN.{length, take, drop}
 use borrow.Author.Needs.{needs}
-use borrow.Rule.Slice.PartAt.{part-to-end}
+use borrow.Author.Tests.{ltb-true, ltb-false}
+use Rattle.frame.specs.declared.Packet.the-variants.{Data}
 use Rattle.cutting.specs.Cutting.{fullFrames}
-use Rattle.cutting.proofs.Steps.{Cutting, starts, turn-inside, turn-ready, turns, lengths-kept, last-ready, ends}
+use Rattle.cutting.specs.Parts.{Ready}
+use Rattle.cutting.proofs.Steps.{Cutting, starts, asked, goes-on, finished, lengths-kept}
 use Rattle.cutting.proofs.put_frames.Statement.{statement}
 use Rattle.cutting.proofs.put_frames.Tie as tie
 
@@ -23,51 +25,50 @@ loop-holds c =
     let count = c .full-frames .ensures .0 ∙ ap (λ (x : ℕ). fullFrames x (length (a .message .now))) (c .before .share-of .ensures .0) in
     starts (a .form) (a .start) (c .full-frames .result) (a .message .now) (a .out .now) (a .lengths .now) (c .before .before .before .before .before .pre) count
 
-inside : (c : tie.In-loop Inv-loop μ-loop) → c .before .loop .from + c .before .before .before .share-of .result ≤ length (c .before .before .before .before .before .before .before .args .message .now)
-inside c =
-    let a = c .before .before .before .before .before .before .before .args in
-    let l = c .before .loop in
-    turn-inside (a .form) (a .start) (c .before .before .full-frames .result) (a .message .now) (a .out .now) (a .lengths .now) (c .before .before .before .before .before .before .before .pre) (l .out) (l .lengths) (l .next) (l .from) (l .at) (l .i) (c .before .before .before .share-of .result) (c .before .before .before .share-of .ensures .0) (l .inv) (c .loop-test .taken)
+-- what a frame asks
+asks : (c : tie.After-packet Inv-loop μ-loop) → let a = c .before .before .before .before .before .before .before .before .args in let l = c .before .before .loop in let to = c .before .part-end .result in
+    (l .from ≤ to) × (to ≤ length (a .message .now)) × Ready (a .form) (Data (c .packet .result)) (length (take (to - l .from) (drop (l .from) (a .message .now)))) (l .at) (length (l .out)) (l .i) (length (l .lengths))
+asks c =
+    let a = c .before .before .before .before .before .before .before .before .args in
+    let l = c .before .before .loop in
+    let share = c .before .before .before .before .share-of in
+    asked (a .form) (a .start) (c .before .before .before .full-frames .result) (a .message .now) (a .out .now) (a .lengths .now) (c .before .before .before .before .before .before .before .before .pre) (l .out) (l .lengths) (l .next) (l .from) (l .at) (l .i) (share .result) (c .before .part-end .result) _ _
+    (share .ensures .0) (l .inv) refl (c .before .part-end .ensures) (c .packet .ensures)
 
-put-one-requires : tie.Need-put-one-requires Inv-loop μ-loop
-put-one-requires c κs =
-    let a = c .before .before .before .before .before .before .before .before .before .before .before .args in
-    let l = c .before .before .before .before .before .loop in
-    turn-ready (a .form) (a .start) (c .before .before .before .before .before .before .full-frames .result) (a .message .now) (a .out .now) (a .lengths .now) (c .before .before .before .before .before .before .before .before .before .before .before .pre) (l .out) (l .lengths) (l .next) (l .from) (l .at) (l .i) (c .before .before .before .before .before .before .before .share-of .result) _ (c .before .before .before .before .before .before .before .share-of .ensures .0) (l .inv) (c .before .before .before .before .loop-test .taken) (c .before .before .before .packet .ensures)
+part-end-requires : tie.Need-part-end-requires Inv-loop μ-loop
+part-end-requires c κs = (omega (arith, c .loop .inv .inside, c .before .before .before .before .before .before .pre .small), omega (arith, c .before .before .share-of .ensures .1))
 
 add-i : tie.Need-add-i Inv-loop μ-loop
-add-i c = omega (arith, c .before .before .before .before .before .before .before .before .before .before .before .loop .inv .places, c .before .before .before .before .before .before .before .before .before .before .before .before .full-frames .ensures .1)
+add-i c = omega (arith, c .before .before .before .before .before .before .before .before .before .before .before .before .loop .inv .places, c .before .before .before .before .before .before .before .before .before .before .before .before .before .full-frames .ensures .1, c .before .before .before .before .before .before .before .before .before .before .before .before .before .before .before .before .before .before .pre .small)
 
 loop-again : tie.Need-loop-again Inv-loop μ-loop
 loop-again c =
+    let a = c .before .before .before .before .before .before .before .before .before .before .before .before .before .before .before .before .before .before .args in
+    let l = c .before .before .before .before .before .before .before .before .before .before .before .before .loop in
+    let w = c .before .before .before .before .before .before .put-one in
+    let share = c .before .before .before .before .before .before .before .before .before .before .before .before .before .before .share-of in
+    let part = c .before .before .before .before .before .before .before .before .before .before .before .part-end in
+    goes-on (a .form) (a .start) (c .before .before .before .before .before .before .before .before .before .before .before .before .before .full-frames .result) (a .message .now) (a .out .now) (a .lengths .now) (c .before .before .before .before .before .before .before .before .before .before .before .before .before .before .before .before .before .before .pre) (l .out) (l .lengths) _ _ _ (l .next) _ (l .from) (l .at) (l .i) (share .result) (part .result) _ _ _
+    (share .ensures .0) (l .inv) refl (c .before .if1 .taken) (part .ensures) (c .before .before .before .before .before .before .before .before .before .before .packet .ensures) refl (c .next .ensures) (w .ensures .1 .0) (w .ensures .1 .1) (w .ensures .0)
+
+-- the lent lists are as long as they were
+kept : (c : tie.Else1 Inv-loop μ-loop) → let a = c .before .before .before .before .before .before .before .before .before .before .before .before .before .before .before .before .before .args in let l = c .before .before .before .before .before .before .before .before .before .before .before .loop in (length (l .out) ≡ length (a .out .now)) × (length (l .lengths) ≡ length (a .lengths .now))
+kept c =
     let a = c .before .before .before .before .before .before .before .before .before .before .before .before .before .before .before .before .before .args in
     let l = c .before .before .before .before .before .before .before .before .before .before .before .loop in
-    let w = c .before .before .before .before .before .put-one in
-    turns (a .form) (a .start) (c .before .before .before .before .before .before .before .before .before .before .before .before .full-frames .result) (a .message .now) (a .out .now) (a .lengths .now) (c .before .before .before .before .before .before .before .before .before .before .before .before .before .before .before .before .before .pre) (l .out) (l .lengths) _ _ _ (l .next) _ (l .from) (l .at) (l .i) (c .before .before .before .before .before .before .before .before .before .before .before .before .before .share-of .result) _ _
-    (c .before .before .before .before .before .before .before .before .before .before .before .before .before .share-of .ensures .0) (l .inv) (c .before .before .before .before .before .before .before .before .before .before .loop-test .taken) refl (c .before .before .before .before .before .before .before .before .before .packet .ensures) (c .next .ensures) (w .ensures .1 .0) (w .ensures .1 .1) (w .ensures .0)
+    lengths-kept (a .form) (a .start) (c .before .before .before .before .before .before .before .before .before .before .before .before .full-frames .result) (a .message .now) (a .out .now) (a .lengths .now) (c .before .before .before .before .before .before .before .before .before .before .before .before .before .before .before .before .before .pre) (l .out) (l .lengths) (l .next) (l .from) (l .at) (l .i) (l .inv) (ltb-false (l .i) (c .before .before .before .before .before .before .before .before .before .before .before .before .full-frames .result) (c .if1 .left))
 
-put-one-requires-2 : tie.Need-put-one-requires-2 Inv-loop μ-loop
-put-one-requires-2 c κs =
-    let a = c .before .before .before .before .before .before .before .before .before .before .before .args in
-    let l = c .before .before .before .before .before .loop in
-    last-ready (a .form) (a .start) (c .before .before .before .before .before .before .full-frames .result) (a .message .now) (a .out .now) (a .lengths .now) (c .before .before .before .before .before .before .before .before .before .before .before .pre) (l .out) (l .lengths) _ (l .next) (l .from) (l .at) (l .i) _ (l .inv) (c .before .before .before .before .loop-test .left) (part-to-end (a .message .now) (l .from)) (c .before .before .before .packet2 .ensures)
-
-kept : (c : tie.After-loop Inv-loop μ-loop) → let a = c .before .before .before .before .before .before .before .args in let l = c .before .loop in (length (l .out) ≡ length (a .out .now)) × (length (l .lengths) ≡ length (a .lengths .now))
-kept c =
-    let a = c .before .before .before .before .before .before .before .args in
-    let l = c .before .loop in
-    lengths-kept (a .form) (a .start) (c .before .before .full-frames .result) (a .message .now) (a .out .now) (a .lengths .now) (c .before .before .before .before .before .before .before .pre) (l .out) (l .lengths) (l .next) (l .from) (l .at) (l .i) (l .inv) (c .loop-test .left)
-
-add-count : tie.Need-add-t14 Inv-loop μ-loop
-add-count c = omega (arith, c .before .before .before .before .before .before .before .before .before .before .loop .inv .places, c .before .before .before .before .before .before .before .before .before .before .before .full-frames .ensures .1)
+add-count : tie.Need-add-t26 Inv-loop μ-loop
+add-count c = omega (arith, c .before .before .before .before .before .before .before .before .before .before .before .loop .inv .places, c .before .before .before .before .before .before .before .before .before .before .before .before .full-frames .ensures .1)
 
 returns : tie.Need-returns Inv-loop μ-loop
 returns c =
-    let a = c .before .before .before .before .before .before .before .before .before .before .before .before .before .before .before .before .args in
-    let l = c .before .before .before .before .before .before .before .before .before .before .loop in
-    let w = c .before .before .before .before .put-one2 in
-    let e = ends (a .form) (a .start) (c .before .before .before .before .before .before .before .before .before .before .before .full-frames .result) (a .message .now) (a .out .now) (a .lengths .now) (c .before .before .before .before .before .before .before .before .before .before .before .before .before .before .before .before .pre) (l .out) (l .lengths) _ _ _ (l .next) (l .from) (l .at) (l .i) _ _ (l .inv) (c .before .before .before .before .before .before .before .before .before .loop-test .left)
-    (part-to-end (a .message .now) (l .from)) (c .before .before .before .before .before .before .before .before .packet2 .ensures) (w .ensures .1 .0) (w .ensures .1 .1) (w .ensures .0) in
+    let a = c .before .before .before .before .before .before .before .before .before .before .before .before .before .before .before .before .before .args in
+    let l = c .before .before .before .before .before .before .before .before .before .before .before .loop in
+    let w = c .before .before .before .before .before .put-one in
+    let part = c .before .before .before .before .before .before .before .before .before .before .part-end in
+    let e = finished (a .form) (a .start) (c .before .before .before .before .before .before .before .before .before .before .before .before .full-frames .result) (a .message .now) (a .out .now) (a .lengths .now) (c .before .before .before .before .before .before .before .before .before .before .before .before .before .before .before .before .before .pre) (l .out) (l .lengths) _ _ _ (l .next) (l .from) (l .at) (l .i) (c .before .before .before .before .before .before .before .before .before .before .before .before .before .share-of .result) (part .result) _ _ _
+    (l .inv) refl (c .if1 .left) (part .ensures) (c .before .before .before .before .before .before .before .before .before .packet .ensures) refl (w .ensures .1 .0) (w .ensures .1 .1) (w .ensures .0) in
     (e .0, (e .1, e .2))
 
 pub put-frames-spec : {M : Type 1} → statement M
@@ -79,22 +80,17 @@ put-frames-spec =
     (λ c κs. c .before .before .before .pre .good)
     (λ c κs. search needs)
     loop-holds
-    (λ c. omega (arith, inside c))
+    part-end-requires
     (λ c κs. search needs)
-    (λ c. omega (arith, inside (c .before)))
-    (λ c. omega (arith, inside (c .before)))
-    (λ c. omega (arith, inside (c .before)))
-    put-one-requires
+    (λ c. omega (arith, asks c .0))
+    (λ c. omega (arith, asks c .0, asks c .1))
+    (λ c. omega (arith, asks c .0, asks c .1))
+    (λ c κs. asks (c .before .before .before) .2)
     (λ c κs. search needs)
     add-i
-    (λ c. search needs)
+    (λ c. omega (arith, ltb-true (c .before .before .before .before .before .before .before .before .before .before .before .before .loop .i) (c .before .before .before .before .before .before .before .before .before .before .before .before .before .full-frames .result) (c .before .if1 .taken)))
     loop-again
-    (λ c κs. search needs)
-    (λ c. search needs)
-    (λ c. search needs)
-    (λ c. search needs)
-    put-one-requires-2
     add-count
-    (λ c. search (needs, kept (c .before .before .before .before .before .before .before .before .before) .0))
-    (λ c. search (needs, kept (c .before .before .before .before .before .before .before .before .before) .1))
+    (λ c. search (needs, kept c .0))
+    (λ c. search (needs, kept c .1))
     returns)

@@ -12,6 +12,7 @@ use Rattle.form.specs.declared.Form.{Form}
 use Rattle.form.specs.Forms.{segOf}
 use Rattle.form.specs.Segments.{frameLength}
 use Rattle.frame.specs.declared.Packet.{Packet}
+use Rattle.frame.specs.declared.Packet.the-variants.{Data}
 use Rattle.frame.specs.Writing.{frameOf, frameVerdict, writeOutput}
 use Rattle.readback.proofs.ReadBack.{accepts, frame-length, output-is}
 use Rattle.cutting.specs.Parts.{splice, Ready}
@@ -55,10 +56,10 @@ returns c =
     let a = c .before .before .before .before .before .before .before .before .args in
     let r = c .before .before .before .before .before .before .before .before .pre in
     let l = c .before .before .before .before .frame-length in
-    let e = l .ensures .0 ∙ sym (size (a .form) (a .packet) (a .user .now) (a .out .now) (a .at) (a .i) (length (a .lengths .now)) r) in (
+    let e = l .ensures .0 ∙ sym (size (a .form) (Data (a .packet)) (a .user .now) (a .out .now) (a .at) (a .i) (length (a .lengths .now)) r) in (
       ap (λ (x : ℕ). a .at + x) e,
       (
-        put (a .form) (a .packet) (a .user .now) (a .out .now) (a .at) (a .i) (length (a .lengths .now)) r (l .result) _ (l .ensures .0) (c .before .before .write-frame .ensures .1),
+        put (a .form) (Data (a .packet)) (a .user .now) (a .out .now) (a .at) (a .i) (length (a .lengths .now)) r (l .result) _ (l .ensures .0) (c .before .before .write-data .ensures .1),
         ap (set (a .lengths .now) (a .i)) e,
       ),
     )

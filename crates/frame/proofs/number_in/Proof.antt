@@ -1,6 +1,6 @@
 -- `frame::number_in` meets its contract: at each turn the number so far and the bytes from here on write the whole.
 -- Assumes nothing.
-use mathlib.Core.Path.{_≡_, refl, sym, ap, _∙_, subst}
+use mathlib.Core.Path.{_≡_, refl, sym, ap, _∙_}
 use mathlib.Core.List.{List, [], _∷_}
 use Prim.Native.Nat.{ℕ, zero, suc, _+_, _-_, _*_, _^_, _<_, _≤_}
 use native.Mathlib.Numerals.{add-one}
@@ -37,25 +37,28 @@ abbrev μ-loop : tie.MeasureT-loop
 μ-loop frame k h₀ i₀ h i = k - i
 
 loop-holds : tie.Need-loop-holds Inv-loop μ-loop
-loop-holds c = (c .before .args .k, omega arith, omega arith, refl)
+loop-holds c = (c .args .k, omega arith, omega arith, refl)
 
 mul-h : tie.Need-mul-h Inv-loop μ-loop
 mul-h c = let l = c .before .loop in omega (arith, short-fits (l .h) (l .i) (l .inv .2) (omega arith))
 
+-- the byte that is read
+byte-small : (c : tie.After-shared-slice-known Inv-loop μ-loop) → getD (c .before .before .before .args .frame .now) (c .before .before .loop .i) 0 < 256
+byte-small c = omega (arith, c .shared-slice-known .given (c .before .before .loop .i))
+
 add-h : tie.Need-add-h Inv-loop μ-loop
-add-h c = let l = c .before .before .loop in omega (arith, short-fits (l .h) (l .i) (l .inv .2) (omega arith), c .byte-at .ensures .1)
+add-h c = let l = c .before .before .loop in omega (arith, short-fits (l .h) (l .i) (l .inv .2) (omega arith), byte-small c)
 
 loop-again : tie.Need-loop-again Inv-loop μ-loop
 loop-again c =
     let l = c .before .before .loop in
-    let frame = c .before .before .before .before .args .frame .now in
+    let frame = c .before .before .before .args .frame .now in
     let r = l .inv .0 - 1 in
     let e : l .inv .0 ≡ suc r = omega arith in (
       r,
       omega arith,
-      read-fits (l .h) (l .i) (c .byte-at .result) (l .inv .2) (c .byte-at .ensures .1),
-      ap (λ (x : ℕ). packAfter (l .h * 256 + x) (eights r) (drop (l .i + 1) frame)) (c .byte-at .ensures .0)
-          ∙ ap (λ (n : ℕ). packAfter (l .h * 256 + getD frame (l .i) 0) (eights r) (drop n frame)) (add-one (l .i))
+      read-fits (l .h) (l .i) (getD frame (l .i) 0) (l .inv .2) (byte-small c),
+      ap (λ (n : ℕ). packAfter (l .h * 256 + getD frame (l .i) 0) (eights r) (drop n frame)) (add-one (l .i))
           ∙ sym (read-step (l .h) r (l .i) frame)
           ∙ ap (λ (n : ℕ). packAfter (l .h) (eights n) (drop (l .i) frame)) (sym e)
           ∙ l .inv .3,
@@ -64,14 +67,22 @@ loop-again c =
 returns : tie.Need-returns Inv-loop μ-loop
 returns c =
     let l = c .before .loop in
-    let a = c .before .before .before .args in
+    let a = c .before .before .args in
     let none : l .inv .0 ≡ 0 = omega arith in
-    let all : l .i ≡ a .k = omega arith in (
-      ap (λ (n : ℕ). packAfter (l .h) (eights n) (drop (l .i) (a .frame .now))) (sym none) ∙ l .inv .3,
-      subst (λ (n : ℕ). l .h < 2 ^ (8 * n)) all (l .inv .2),
-    )
+    ap (λ (n : ℕ). packAfter (l .h) (eights n) (drop (l .i) (a .frame .now))) (sym none) ∙ l .inv .3
 
 pub number-in-spec : {M : Type 1} → statement M
 number-in-spec =
     tie.close
-    (tie.spec Inv-loop μ-loop loop-holds mul-h (λ c κs. search needs) add-h (λ c. search needs) (λ c. search needs) loop-again returns)
+    (tie.spec
+    Inv-loop
+    μ-loop
+    loop-holds
+    mul-h
+    (λ c. search needs)
+    (λ c. omega (arith, byte-small c))
+    add-h
+    (λ c. search needs)
+    (λ c. search needs)
+    loop-again
+    returns)

@@ -1,43 +1,38 @@
--- `frame::read_frame` meets its contract: the first byte names the kind, and each case is that of `readAs`.
+-- `frame::read_frame` meets its contract: a frame of no whole segments is refused whatever its kind.
 -- Assumes nothing.
-use mathlib.Core.Path.{_≡_, sym, ap, _∙_}
+use mathlib.Core.Path.{_≡_, sym, _∙_}
+use mathlib.Core.List.{List}
+use Prim.Native.Nat.{ℕ}
+use lib.ListN.{length, getD}
 use borrow.Author.Needs.{needs}
-use Rattle.frame.specs.declared.Found.{Found}
+use Rattle.refusal.specs.declared.Refusal.{Refusal}
+use Rattle.refusal.specs.declared.Verdict.the-variants.{Refused as NotDone}
+use Rattle.form.specs.declared.Form.{Form}
+use Rattle.codec.specs.Reading.{shapeVerdict}
+use Rattle.frame.specs.declared.Read.the-variants.{Refused}
 use Rattle.frame.specs.Packets.{kinds}
-use Rattle.frame.specs.Reading.{firstNamed, unknownBy, readAs, readOf}
+use Rattle.frame.specs.Reading.{firstNamed, readOf}
+use Rattle.frame.proofs.Readings.{shapeless, shape-seven}
 use Rattle.frame.proofs.read_frame.Statement.{statement}
 use Rattle.frame.proofs.read_frame.Tie as tie
 
--- the kind that was found decides
-found : (c : tie.After-named) → readAs (c .named .result) (c .before .before .before .args .form) (c .before .before .before .args .frame .now) ≡ readOf (c .before .before .before .args .form) (c .before .before .before .args .frame .now)
+-- whatever kind the first byte names
+unread : (form : Form) (frame : List ℕ) (why : Refusal) → shapeVerdict form (length frame) ≡ NotDone why → Refused why ≡ readOf form frame
 unfolding readOf
-found c =
-    ap (λ (f : Found). readAs f (c .before .before .before .args .form) (c .before .before .before .args .frame .now))
-    (c .named .ensures ∙ ap (firstNamed kinds) (c .before .byte-at .ensures .0))
+unread form frame why e = shapeless form frame why e (firstNamed kinds (getD frame 0 0))
 
-returns : tie.Need-returns
-returns c = c .read-known .ensures ∙ ap (λ (f : Found). readAs f (c .before .before .before .before .before .before .before .args .form) (c .before .before .before .before .before .before .before .args .frame .now)) (sym (c .before .before .found .given .1)) ∙ found (c .before .before .before .before)
-
--- a kind that is not known
-unknown : (c : tie.After-check-shape) → unknownBy (c .check-shape .result) ≡ readOf (c .before .before .before .before .before .before .args .form) (c .before .before .before .before .before .before .args .frame .now)
-unfolding readAs
-unknown c =
-    ap unknownBy (c .check-shape .ensures)
-    ∙ ap (λ (f : Found). readAs f (c .before .before .before .before .before .before .args .form) (c .before .before .before .before .before .before .args .frame .now)) (sym (c .before .enum-told .given .1))
-    ∙ found (c .before .before .before)
+read-whole-requires : tie.Need-read-whole-requires
+read-whole-requires c κs =
+    let a = c .before .before .before .before .args in
+    let done = sym (c .before .before .check-shape .ensures) ∙ c .enum-told .given .1 in
+    (shape-seven (a .form) (length (a .frame .now)) done, done)
 
 returns-2 : tie.Need-returns-2
-returns-2 c = ap unknownBy (sym (c .enum-told2 .given .1)) ∙ unknown (c .before .before)
-
-returns-3 : tie.Need-returns-3
-returns-3 c = ap unknownBy (sym (c .before .shape .given .1)) ∙ unknown (c .before .before .before)
+returns-2 c =
+    let a = c .before .before .before .before .before .args in
+    unread (a .form) (a .frame .now) _ (sym (c .before .before .before .check-shape .ensures) ∙ c .before .shape .given .1)
 
 pub read-frame-spec : {M : Type 1} → statement M
 read-frame-spec =
     tie.close
-    (tie.spec
-    (λ c κs. search needs) (λ c κs. search needs) (λ c. search needs) (λ c κs. search needs) (λ c. search needs) (λ c κs. search needs)
-    (λ c. search needs) (λ c. search needs)
-    returns
-    returns-2
-    returns-3)
+    (tie.spec (λ c κs. search needs) (λ c. search needs) read-whole-requires (λ c. search needs) (λ c. search needs) returns-2)

@@ -7,7 +7,8 @@ use native.Mathlib.Omega.{arith}
 use lib.ListN.{length, getD, set, length-set}
 use lib.Seq.{paste, paste-zero}
 use borrow.Author.Needs.{needs}
-use Rattle.frame_bytes.proofs.Packets.{ten, paste-ten, copy-front}
+use Rattle.codec.proofs.Writing.{copy-front}
+use Rattle.frame_bytes.proofs.Packets.{ten, paste-ten}
 use Rattle.frame_bytes.proofs.put_packet.Statement.{statement}
 use Rattle.frame_bytes.proofs.put_packet.Tie as tie
 

@@ -24,7 +24,7 @@ judged c =
     let p = c .before .before .before .read .given .0 .0 in
     ap₂ (λ (v : Verdict) (user : List ℕ). turnBy v (dataIn p) (length user)) (c .before .check-packet .ensures) (c .user-data .ensures)
     ∙ packet-turn (a .before) (a .last) p (c .before .before .before .read .given .0 .1 .0) (a .frame .now)
-    ∙ ap (λ (r : Read). turnOf (a .before) (a .last) r (a .frame .now)) (sym (c .before .before .before .read .given .1) ∙ c .before .before .before .before .before .read-frame .ensures)
+    ∙ ap (λ (r : Read). turnOf (a .before) (a .last) r (a .frame .now)) (sym (c .before .before .before .read .given .1) ∙ c .before .before .before .before .before .read-one .ensures)
 
 returns : tie.Need-returns
 returns c =
@@ -40,7 +40,7 @@ returns-2 c =
 returns-3 : tie.Need-returns-3
 returns-3 c =
     let a = c .before .before .before .before .before .args in
-    ap (λ (r : Read). turnOf (a .before) (a .last) r (a .frame .now)) (sym (c .before .read2 .given .1) ∙ c .before .before .before .read-frame .ensures)
+    ap (λ (r : Read). turnOf (a .before) (a .last) r (a .frame .now)) (sym (c .before .read2 .given .1) ∙ c .before .before .before .read-one .ensures)
 
 pub judge-frame-spec : {M : Type 1} → statement M
 judge-frame-spec =

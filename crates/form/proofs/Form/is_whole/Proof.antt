@@ -1,14 +1,23 @@
--- `form::Form::is_whole` meets its contract: the remainder is by the form's segment.
+-- `form::Form::is_whole` meets its contract: whole segments are those that want no padding.
 -- Assumes nothing.
+use mathlib.Core.Path.{ap, _∙_}
+use Prim.Native.Nat.{ℕ}
+use lib.Dec.{eqb}
 use borrow.Author.Needs.{needs}
 use borrow.Author.Tests.{le-leb, lt-leb}
+use Rattle.form.specs.Forms.{segOf}
 use Rattle.form.specs.Segments.{wholeSegments}
+use Rattle.form.proofs.Forms.{segment-some}
+use Rattle.form.proofs.Segments.{padding-zero}
 use Rattle.form.proofs.Form.is_whole.Statement.{statement}
 use Rattle.form.proofs.Form.is_whole.Tie as tie
 
 returns : tie.Need-returns
 unfolding wholeSegments
-returns c = simp (le-leb _ _ (c .before .if1 .taken), c .past-segment .ensures)
+returns c =
+    let a = c .before .before .args in
+    simp (le-leb _ _ (c .before .if1 .taken))
+    (ap (λ (x : ℕ). eqb x 0) (c .padding .ensures .0) ∙ padding-zero (segOf (a .self)) (a .len) (segment-some (a .self)))
 
 returns-2 : tie.Need-returns-2
 unfolding wholeSegments

@@ -10,8 +10,8 @@ use Rattle.form.proofs.Segments.{padding-below}
 use Rattle.form.proofs.Form.last_used.Statement.{statement}
 use Rattle.form.proofs.Form.last_used.Tie as tie
 
-sub-used : tie.Need-sub-used
-sub-used c =
+sub-result : tie.Need-sub-result
+sub-result c =
     let seg = segOf (c .before .before .args .self) in
     let some : 1 ≤ seg = omega (arith, c .before .segment .ensures .0, c .before .segment .ensures .1) in
     omega (arith, c .before .segment .ensures .0, c .padding .ensures .0, padding-below seg (c .before .before .args .n) some)
@@ -28,4 +28,4 @@ returns c =
     )
 
 pub last-used-spec : {M : Type 1} → statement M
-last-used-spec = tie.close (tie.spec (λ c κs. search needs) (λ c κs. search needs) sub-used (λ c. search needs) returns)
+last-used-spec = tie.close (tie.spec (λ c κs. search needs) (λ c κs. search needs) sub-result returns)

@@ -1,0 +1,23 @@
+-- `frame::header_in` meets its contract: each kind's.
+-- Assumes nothing.
+use borrow.Author.Needs.{needs}
+use Rattle.frame.proofs.header_in.Statement.{statement}
+use Rattle.frame.proofs.header_in.Tie as tie
+
+returns : tie.Need-returns
+returns c = rw (c .before .enum-told .given .1) (c .data-in .ensures)
+
+returns-2 : tie.Need-returns-2
+returns-2 c = rw (c .before .enum-told2 .given .1) (c .request-in .ensures)
+
+returns-3 : tie.Need-returns-3
+returns-3 c = rw (c .before .enum-told3 .given .1) (c .confirmation-in .ensures)
+
+pub header-in-spec : {M : Type 1} → statement M
+header-in-spec =
+    tie.close
+    (tie.spec
+    (λ c. search needs) (λ c κs. search needs) (λ c. search needs) (λ c κs. search needs) (λ c. search needs) (λ c κs. search needs)
+    returns
+    returns-2
+    returns-3)
