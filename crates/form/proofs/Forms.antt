@@ -1,34 +1,31 @@
 -- The forms' segments and packets, a line a form.
 -- Assumes nothing.
-use mathlib.Core.Path.{_≡_, refl, sym}
-use mathlib.Core.Bool.{Bool, true, false}
+use mathlib.Core.Path.{_≡_, refl}
+use mathlib.Core.Bool.{true}
 use Prim.Native.Nat.{ℕ, _+_, _-_, _*_, _/_, _%_, _<_, _≤_}
+use native.Mathlib.Nat.{mod-mod-of-dvd, dvd-of-mod-eq-zero}
 use native.Mathlib.Omega.{arith}
-use lib.Dec.{leb, ltb, eqb}
-use borrow.Author.Tests.{leb-true, ltb-true, ltb-false, eq-eqb, ne-eqb}
+use lib.Dec.{leb}
+use borrow.Author.Tests.{leb-true, eq-eqb, ne-eqb}
 use Rattle.refusal.proofs.Checks.{both-true}
 use Rattle.form.specs.declared.Form.{Form}
 use Rattle.form.specs.declared.Form.the-variants.{ShortUplink, LongUplink, LongDownlink}
 use Rattle.form.specs.Forms.{segOf, mostOf, formGood, formAt}
-use Rattle.form.specs.Segments.{frameLength}
-use Rattle.form.proofs.Segments.{padding-below, frame-whole}
-
-pub segment-some : (form : Form) → 1 ≤ segOf form
-segment-some ShortUplink = omega arith
-segment-some LongUplink = omega arith
-segment-some (LongDownlink n) = omega arith
-
--- LV's four bits hold a segment's length
-pub segment-few : (form : Form) → segOf form ≤ 15
-segment-few ShortUplink = omega arith
-segment-few LongUplink = omega arith
-segment-few (LongDownlink n) = omega arith
 
 -- every segment holds a header
 pub segment-seven : (form : Form) → 7 ≤ segOf form
 segment-seven ShortUplink = omega arith
 segment-seven LongUplink = omega arith
 segment-seven (LongDownlink n) = omega arith
+
+pub segment-some : (form : Form) → 1 ≤ segOf form
+segment-some form = omega (arith, segment-seven form)
+
+-- LV's four bits hold a segment's length
+pub segment-few : (form : Form) → segOf form ≤ 15
+segment-few ShortUplink = omega arith
+segment-few LongUplink = omega arith
+segment-few (LongDownlink n) = omega arith
 
 -- a segment that is not the short one
 pub segment-long : (form : Form) → (segOf form ≡ 7 → ⊥) → segOf form ≡ 10
@@ -57,27 +54,14 @@ filled ShortUplink k s r h es er = rw (es, er) (record { product = omega arith; 
 filled LongUplink k s r h es er = rw (es, er) (record { product = omega arith; few = omega arith; hold = omega arith; rest = omega arith; over = omega arith })
 filled (LongDownlink n) k s r h es er = rw (es, er) (record { product = omega arith; few = omega arith; hold = omega arith; rest = omega arith; over = omega arith })
 
--- a segment divides 70
+-- every segment divides 70
+divides-seventy : (form : Form) → 70 % segOf form ≡ 0
+divides-seventy ShortUplink = refl
+divides-seventy LongUplink = refl
+divides-seventy (LongDownlink n) = refl
+
 pub past-seventy : (form : Form) (n : ℕ) → n % 70 % segOf form ≡ n % segOf form
-past-seventy ShortUplink n = omega arith
-past-seventy LongUplink n = omega arith
-past-seventy (LongDownlink m) n = omega arith
-
--- ---- a frame of whole segments
-
--- n bytes with less than a segment after them are filled up to the whole
-whole-next : (form : Form) (len n : ℕ) → len % segOf form ≡ 0 → n ≤ len → len - n < segOf form → len ≡ frameLength (segOf form) n
-whole-next ShortUplink len n m h l = omega (arith, frame-whole 7 n (omega arith), padding-below 7 n (omega arith))
-whole-next LongUplink len n m h l = omega (arith, frame-whole 10 n (omega arith), padding-below 10 n (omega arith))
-whole-next (LongDownlink k) len n m h l = omega (arith, frame-whole 10 n (omega arith), padding-below 10 n (omega arith))
-
--- and no others are
-pub whole-by : (form : Form) (len n : ℕ) → len % segOf form ≡ 0 → n ≤ len → ltb (len - n) (segOf form) ≡ eqb len (frameLength (segOf form) n)
-whole-by form len n m h = go (ltb (len - n) (segOf form)) refl
-  where
-    go : (b : Bool) → ltb (len - n) (segOf form) ≡ b → b ≡ eqb len (frameLength (segOf form) n)
-    go true e = sym (eq-eqb len (frameLength (segOf form) n) (whole-next form len n m h (ltb-true (len - n) (segOf form) e)))
-    go false e = sym (ne-eqb len (frameLength (segOf form) n) (λ w. omega (arith, w, ltb-false (len - n) (segOf form) e, padding-below (segOf form) n (segment-some form))))
+past-seventy form n = mod-mod-of-dvd (segOf form) n (dvd-of-mod-eq-zero (segOf form) (divides-seventy form))
 
 -- ---- the form that a number stands for
 

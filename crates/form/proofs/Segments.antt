@@ -3,10 +3,11 @@
 use mathlib.Core.Path.{_≡_, refl, sym, ap, _∙_}
 use mathlib.Core.Bool.{Bool, true, false}
 use Prim.Native.Nat.{ℕ, zero, suc, _+_, _-_, _*_, _/_, _%_, _<_, _≤_}
-use native.Mathlib.Nat.{mod-lt, mod-self, mod-eq-of-lt, div-add-mod', mul-add-mod-self-right, mul-mod-left, zero-mul, suc-mul}
+use native.Mathlib.Nat.{mod-lt, mod-self, mod-eq-of-lt, mod-add-mod, div-add-mod', mul-add-mod-self-right, mul-mod-left, zero-mul, suc-mul}
+use native.Mathlib.Decide.{decLt}
 use native.Mathlib.Omega.{arith}
-use lib.Dec.{leb, eqb}
-use borrow.Author.Tests.{leb-true, eq-eqb, ne-eqb, eqb-true, eqb-false}
+use lib.Dec.{leb, ltb, eqb}
+use borrow.Author.Tests.{leb-true, ltb-true, ltb-false, eq-eqb, ne-eqb, eqb-true, eqb-false}
 use Rattle.refusal.proofs.Checks.{both-true}
 use Rattle.form.specs.Segments.{padding, lastUsed, frameLength, wholeSegments}
 
@@ -54,6 +55,34 @@ segments seg n some = go (eqb (n % seg) 0) refl
 
 pub frame-whole : (seg n : ℕ) → 1 ≤ seg → frameLength seg n % seg ≡ 0
 frame-whole seg n some = let s = segments seg n some in ap (λ (x : ℕ). x % seg) (s .1) ∙ mul-mod-left (s .0) seg
+
+-- less than a segment between whole segments is nothing
+none-between : (seg x y t : ℕ) → x % seg ≡ 0 → y % seg ≡ 0 → y ≡ x + t → t < seg → t ≡ 0
+none-between seg x y t ex ey e h =
+    let z : t ≡ x % seg + t = omega (arith, ex) in
+    sym (mod-eq-of-lt h) ∙ ap (λ (k : ℕ). k % seg) z ∙ mod-add-mod x seg t ∙ ap (λ (k : ℕ). k % seg) (sym e) ∙ ey
+
+-- whole segments that hold n bytes, with less than a segment over, are those of their frame
+whole-next : (seg len n : ℕ) → 1 ≤ seg → len % seg ≡ 0 → n ≤ len → len - n < seg → len ≡ frameLength seg n
+whole-next seg len n some m h l = go (decLt len (frameLength seg n))
+  where
+    go : Dec (len < frameLength seg n) → len ≡ frameLength seg n
+    go (yes g) =
+        let t = frameLength seg n - len in
+        let none : t ≡ 0 = none-between seg len (frameLength seg n) t m (frame-whole seg n some) (omega arith) (omega (arith, padding-below seg n some)) in
+        absurd (omega (arith, none))
+    go (no g) =
+        let t = len - frameLength seg n in
+        let none : t ≡ 0 = none-between seg (frameLength seg n) len t (frame-whole seg n some) m (omega arith) (omega arith) in
+        omega (arith, none)
+
+-- and no others are
+pub whole-by : (seg len n : ℕ) → 1 ≤ seg → len % seg ≡ 0 → n ≤ len → ltb (len - n) seg ≡ eqb len (frameLength seg n)
+whole-by seg len n some m h = go (ltb (len - n) seg) refl
+  where
+    go : (b : Bool) → ltb (len - n) seg ≡ b → b ≡ eqb len (frameLength seg n)
+    go true e = sym (eq-eqb len (frameLength seg n) (whole-next seg len n some m h (ltb-true (len - n) seg e)))
+    go false e = sym (ne-eqb len (frameLength seg n) (λ w. omega (arith, w, ltb-false (len - n) seg e, padding-below seg n some)))
 
 -- a frame that has bytes has at least one segment
 pub frame-some : (seg n : ℕ) → 1 ≤ seg → 1 ≤ frameLength seg n → seg ≤ frameLength seg n

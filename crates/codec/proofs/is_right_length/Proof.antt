@@ -9,7 +9,8 @@ use borrow.Author.Needs.{needs}
 use borrow.Author.Tests.{le-leb, lt-leb, ne-eqb}
 use Rattle.form.specs.Forms.{segOf}
 use Rattle.form.specs.Segments.{frameLength, padding}
-use Rattle.form.proofs.Forms.{whole-by}
+use Rattle.form.proofs.Forms.{segment-some}
+use Rattle.form.proofs.Segments.{whole-by}
 use Rattle.codec.specs.declared.Extent.{Extent}
 use Rattle.codec.specs.declared.Extent.the-variants.{ByLv, Exactly}
 use Rattle.codec.specs.Reading.{packetLength, lengthGood}
@@ -56,7 +57,7 @@ returns-4 c =
     let a = told .before .before .before .args in
     sym (exactly _ (segOf (a .form)) (a .size) _ _ (told .before .before .before .pre .0) _ (told .before .extent2 .given .1)
     ∙ simp (le-leb (a .size) (a .n) (c .before .before .if3 .taken))
-    (sym (whole-by (a .form) (a .len) (a .n) (told .before .before .before .pre .1) (c .before .if4 .taken)) ∙ ap (ltb (a .len - a .n)) (sym (c .segment2 .ensures .0))))
+    (sym (whole-by (segOf (a .form)) (a .len) (a .n) (segment-some (a .form)) (told .before .before .before .pre .1) (c .before .if4 .taken)) ∙ ap (ltb (a .len - a .n)) (sym (c .segment2 .ensures .0))))
 
 returns-5 : tie.Need-returns-5
 returns-5 c =
