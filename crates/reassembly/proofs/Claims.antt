@@ -8,7 +8,7 @@ use native.Mathlib.Omega.{arith}
 use lib.ListN.{length, take, drop}
 use lib.Seq.{take-at}
 use Rattle.refusal.specs.declared.Verdict.{Verdict}
-use Rattle.refusal.specs.declared.Verdict.the-variants.{Done, Refused}
+use Rattle.refusal.specs.declared.Verdict.the-variants.{Done}
 use Rattle.lists.specs.Lists.{over}
 use Rattle.fields.specs.Rows.{AreBytes}
 use Rattle.form.specs.declared.Form.{Form}
@@ -30,7 +30,7 @@ use Rattle.cutting.specs.Cutting.{shareOf, fullFrames, dataOf, framesFrom, fram
 use Rattle.joining.specs.Joining.{framesVerdict, messageIn, joinVerdict, joinBy, joinOf, joinOutput}
 use Rattle.lists.proofs.Frames.{parts-back, sum-lengths, count-lengths, count-parts, bytes-back, lengths-back}
 use Rattle.cutting.proofs.Sizes.{share-range, frames-count}
-use Rattle.cutting.proofs.Passed.{passed, accepts}
+use Rattle.cutting.proofs.Passed.{by-frames, passed, accepts}
 use Rattle.joining.proofs.Answers.{by-bytes, JoinDone, join-done, join-accepts}
 use Rattle.reassembly.specs.Claims.{CutIsJoined, AsCut, startOf, JoinedIsCut, Reassembly}
 use Rattle.reassembly.proofs.Parts.{are-bytes}
@@ -39,12 +39,6 @@ use Rattle.reassembly.proofs.Shares.{shares-hold, shares-fewest}
 use Rattle.reassembly.proofs.Cutting.{first, frames-run, frames-message}
 use Rattle.reassembly.proofs.Joining.{message-shares}
 use Rattle.reassembly.proofs.Again.{AllBytes, frames-again}
-
--- ---- what a done call was given
-
-cut-frames : (v : Verdict) (fs : List (List ℕ)) (count bytes : ℕ) → cutBy v fs ≡ Frames count bytes → (v ≡ Done) × (length fs ≡ count) × (length (bytesIn fs) ≡ bytes)
-cut-frames Done fs count bytes e = (refl, cc, cc)
-cut-frames (Refused why) fs count bytes e = let z : _≡_ {A = ℕ} 0 1 = cc in absurd (omega arith)
 
 -- ---- cut, then joined
 
@@ -80,7 +74,7 @@ cut-is-joined : (form : Form) (s : Start) (message out lengths room : List ℕ) 
 unfolding cutOf cutOutput cutLengths joinOf joinOutput
 cut-is-joined form s message out lengths room count bytes e enough =
     let fs = framesOf form s message in
-    let c = cut-frames (cutVerdict form s message (length out) (length lengths)) fs count bytes e in
+    let c = by-frames (cutVerdict form s message (length out) (length lengths)) fs count bytes e in
     let d = passed form s message (length out) (length lengths) (c .0) in
     let j = frames-join form s message (length room) (d .good) (d .fit) (d .small) enough in
     let v = join-accepts form (lengthsOf fs) (bytesIn fs) (length room) (j .0) in

@@ -1,39 +1,28 @@
 -- `transfer_demo::carry` meets its contract: the frames that were made lie within the lists.
 -- Assumes nothing.
-use mathlib.Core.Path.{_≡_, refl, sym, _∙_}
+use mathlib.Core.Path.{_≡_, sym, _∙_}
 use mathlib.Core.List.{List}
 use Prim.Native.Nat.{ℕ, _≤_}
 use native.Mathlib.Omega.{arith}
 use lib.ListN.{length, take, length-take}
 use lib.Seq.{length-take-le}
 use borrow.Author.Needs.{needs}
-use Rattle.refusal.specs.declared.Verdict.{Verdict}
-use Rattle.refusal.specs.declared.Verdict.the-variants.{Done, Refused}
-use Rattle.lists.specs.Frames.{bytesIn}
 use Rattle.form.specs.declared.Form.{Form}
 use Rattle.cutting.specs.declared.Start.{Start}
 use Rattle.cutting.specs.declared.Cut.{Cut}
 use Rattle.cutting.specs.declared.Cut.the-variants.{Frames}
-use Rattle.cutting.specs.Cutting.{framesOf, cutVerdict, cutBy, cutOf}
-use Rattle.cutting.proofs.Passed.{passed}
+use Rattle.cutting.specs.Cutting.{framesOf, cutVerdict, cutOf}
+use Rattle.cutting.proofs.Passed.{by-frames, passed}
 use Rattle.transfer_demo.proofs.carry.Statement.{statement}
 use Rattle.transfer_demo.proofs.carry.Tie as tie
-
-done-fits : (v : Verdict) (fs : List (List ℕ)) (room places count bytes : ℕ) → cutBy v fs ≡ Frames count bytes
-    → (v ≡ Done → (length fs ≤ places) × (length (bytesIn fs) ≤ room)) → (count ≤ places) × (bytes ≤ room)
-done-fits Done fs room places count bytes e h =
-    let a : length fs ≡ count = cc in
-    let b : length (bytesIn fs) ≡ bytes = cc in
-    (omega (arith, h refl .0), omega (arith, h refl .1))
-done-fits (Refused why) fs room places count bytes e h = let z : _≡_ {A = ℕ} 0 1 = cc in absurd (omega arith)
 
 cut-fits : (form : Form) (s : Start) (message : List ℕ) (room places : ℕ) {r : Cut} {count bytes : ℕ} → r ≡ cutOf form s message room places → r ≡ Frames count bytes
     → (count ≤ places) × (bytes ≤ room)
 unfolding cutOf
 cut-fits form s message room places {r} {count} {bytes} e q =
-    done-fits (cutVerdict form s message room places) (framesOf form s message) room places count bytes (sym e ∙ q) (λ d.
-    let p = passed form s message room places d in
-    (p .frames, p .bytes))
+    let f = by-frames (cutVerdict form s message room places) (framesOf form s message) count bytes (sym e ∙ q) in
+    let p = passed form s message room places (f .0) in
+    (omega (arith, f .1, p .frames), omega (arith, f .2, p .bytes))
 
 -- a list that keeps its length
 module _ (n long : ℕ) (xs : List ℕ) (e : length xs ≡ long) where
