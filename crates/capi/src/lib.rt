@@ -1,22 +1,33 @@
-// The library for C and Rust: every call under its exported name, with numbers and lent lists for arguments. Each is the call of a crate below and has its
-// promise; bindings/c/pepperknoll.h tells the same in words.
+// The exported calls of `libpepperknoll.a`, for C, C++, Ada and Rust. Each calls a function of
+// `sequence` or of a crate named `.._bytes` and has the same contract; bindings/c/pepperknoll.h
+// describes the calls to C programmers. A list is lent as a pointer and a length.
+//
+// A call answers one number. Its low 8 bits are the refusal number of document 01, 0 for done; the
+// bits above them hold the values that the call's comment names, which are 0 after a refusal,
+// except for the two clearing codes of a choice. A refused call leaves every lent byte as it was.
+// "Refused with 14, 1" means that 14 is checked before 1. Refusal 14 is given for a state that is
+// not in good order, and for a list of a fixed length (a state, a table, a packet, the places for
+// tickets or for a report) that has another length.
 ghost use mathlib.Core.Path.{_≡_};
 ghost use lib.ListN.{length};
 ghost use Rattle.sequence.specs.Modular.{distance, next};
-ghost use Rattle.window_bytes.specs.Stored.{freshSenderCode, freshSenderBytes, senderOrder, sendCode, sendBytes, acknowledgeCode, acknowledgeBytes, freshReceiverCode, freshReceiverBytes, receiverOrder, receiveCode, receiveBytes, tellCode, tellBytes};
-ghost use Rattle.resequencer_bytes.specs.Stored.{freshCode, freshBytes, orderCode, arriveCode, arriveBytes, arriveTickets, clockEndCode, clockEndBytes, clockEndTickets};
-ghost use Rattle.form.specs.Forms.{formAt};
-ghost use Rattle.frame_bytes.specs.Stored.{writeCode, writeBytes, readCode, readBytes};
-ghost use Rattle.cutting.specs.Cutting.{cutOf, cutOutput, cutLengths};
-ghost use Rattle.joining.specs.Joining.{joinOf, joinOutput};
-ghost use Rattle.message_bytes.specs.Answers.{startAt, cutCode, joinedCode};
-ghost use Rattle.route_bytes.specs.Stored.{emptyCode, emptyBytes, codesCode, countCode, chooseCode, chooseAmongCode, updateCode, updateBytes, updateLost};
+ghost use Rattle.window_bytes.specs.Stored.{freshSenderAnswer, freshSenderBytes, senderOrderAnswer, sendAnswer, sendBytes, acknowledgeAnswer, acknowledgeBytes, freshReceiverAnswer, freshReceiverBytes, receiverOrderAnswer, receiveAnswer, receiveBytes, tellAnswer, tellBytes};
+ghost use Rattle.resequencer_bytes.specs.Stored.{freshAnswer, freshBytes, orderAnswer, arriveAnswer, arriveBytes, arriveTickets, clockEndAnswer, clockEndBytes, clockEndTickets};
+ghost use Rattle.frame_form.specs.Forms.{formAt};
+ghost use Rattle.frame_bytes.specs.Stored.{writeAnswer, writeBytes, readAnswer, readBytes};
+ghost use Rattle.message.specs.Cutting.{cutOf, cutOutput, cutLengths};
+ghost use Rattle.message.specs.Joining.{joinOf, joinOutput};
+ghost use Rattle.message_bytes.specs.Answers.{startAt, cutAnswer, joinedAnswer};
+ghost use Rattle.route_bytes.specs.Stored.{emptyAnswer, emptyBytes, codesAnswer, countAnswer, chooseAnswer, chooseAmongAnswer, updateAnswer, updateBytes, updateLost};
 use sequence::LinkNumber;
 use sequence::PacketNumber;
 
 // ---- sequence numbers
 
-// How far a link number is ahead of another, modulo 64.
+// These four calls answer the number itself, not a refusal number. A number too large for its field
+// is taken as its remainder.
+
+// The distance from the link number `from` to `to`: `to` minus `from`, modulo 64.
 #[no_mangle]
 pub extern "C" fn pk_link_distance(from: u8, to: u8) -> u8
     ensures { λ r. ⌜ r ≡ distance 64 from to ⌝ }
@@ -24,7 +35,7 @@ pub extern "C" fn pk_link_distance(from: u8, to: u8) -> u8
     LinkNumber(from).distance_to(LinkNumber(to))
 }
 
-// The link number after another.
+// The link number after `number`, modulo 64.
 #[no_mangle]
 pub extern "C" fn pk_link_next(number: u8) -> u8
     ensures { λ r. ⌜ r ≡ next 64 number ⌝ }
@@ -33,7 +44,7 @@ pub extern "C" fn pk_link_next(number: u8) -> u8
     after.0
 }
 
-// How far a packet number is ahead of another, modulo 16.
+// The distance from the packet number `from` to `to`: `to` minus `from`, modulo 16.
 #[no_mangle]
 pub extern "C" fn pk_packet_distance(from: u8, to: u8) -> u8
     ensures { λ r. ⌜ r ≡ distance 16 from to ⌝ }
@@ -41,7 +52,7 @@ pub extern "C" fn pk_packet_distance(from: u8, to: u8) -> u8
     PacketNumber(from).distance_to(PacketNumber(to))
 }
 
-// The packet number after another.
+// The packet number after `number`, modulo 16.
 #[no_mangle]
 pub extern "C" fn pk_packet_next(number: u8) -> u8
     ensures { λ r. ⌜ r ≡ next 16 number ⌝ }
@@ -50,100 +61,109 @@ pub extern "C" fn pk_packet_next(number: u8) -> u8
     after.0
 }
 
-// ---- the flow window, sending end
+// ---- the flow window, sending end: 2 bytes, the lower edge and the next PS
 
-// Writes an end that has sent nothing.
+// Writes a sending end that has sent nothing, whatever the bytes were. There is no value. Refused
+// with 14.
 #[no_mangle]
 pub extern "C" fn pk_sender_fresh(state: &mut [u8]) -> u32
-    ensures { λ r. ⌜ r ≡ freshSenderCode (now (state .entry)) ⌝ }
+    ensures { λ r. ⌜ r ≡ freshSenderAnswer (now (state .entry)) ⌝ }
     ensures { λ _. ⌜ now (state .exit) ≡ freshSenderBytes (now (state .entry)) ⌝ }
 {
     window_bytes::sender_fresh(state)
 }
 
-// Whether the bytes are an end in good order.
+// Answers 1 if the bytes are a sending end in good order, else 0; this is no refusal number.
 #[no_mangle]
 pub extern "C" fn pk_sender_in_order(state: &[u8]) -> u32
-    ensures { λ r. ⌜ r ≡ senderOrder (now (state .entry)) ⌝ }
+    ensures { λ r. ⌜ r ≡ senderOrderAnswer (now (state .entry)) ⌝ }
 {
     window_bytes::sender_in_order(state)
 }
 
-// Asks for a PS to send the next packet with.
+// Asks for the PS of the next packet: bits 8 to 15. Refused with 14, 9.
 #[no_mangle]
 pub extern "C" fn pk_sender_send(state: &mut [u8]) -> u32
-    ensures { λ r. ⌜ r ≡ sendCode (now (state .entry)) ⌝ }
+    ensures { λ r. ⌜ r ≡ sendAnswer (now (state .entry)) ⌝ }
     ensures { λ _. ⌜ now (state .exit) ≡ sendBytes (now (state .entry)) ⌝ }
 {
     window_bytes::sender_send(state)
 }
 
-// Takes a PR that came in.
+// Takes a received PR, which becomes the lower edge. There is no value. Refused with 14, 1, 16.
 #[no_mangle]
 pub extern "C" fn pk_sender_acknowledge(state: &mut [u8], pr: u8) -> u32
-    ensures { λ r. ⌜ r ≡ acknowledgeCode (now (state .entry)) pr ⌝ }
+    ensures { λ r. ⌜ r ≡ acknowledgeAnswer (now (state .entry)) pr ⌝ }
     ensures { λ _. ⌜ now (state .exit) ≡ acknowledgeBytes (now (state .entry)) pr ⌝ }
 {
     window_bytes::sender_acknowledge(state, pr)
 }
 
-// ---- the flow window, receiving end
+// ---- the flow window, receiving end: 3 bytes, the expected PS, the first-packet mark as 0 or 1,
+// and the count of packets not yet told
 
-// Writes an end to which nothing has come.
+// Writes a receiving end that has accepted nothing, whatever the bytes were. There is no value.
+// Refused with 14.
 #[no_mangle]
 pub extern "C" fn pk_receiver_fresh(state: &mut [u8]) -> u32
-    ensures { λ r. ⌜ r ≡ freshReceiverCode (now (state .entry)) ⌝ }
+    ensures { λ r. ⌜ r ≡ freshReceiverAnswer (now (state .entry)) ⌝ }
     ensures { λ _. ⌜ now (state .exit) ≡ freshReceiverBytes (now (state .entry)) ⌝ }
 {
     window_bytes::receiver_fresh(state)
 }
 
-// Whether the bytes are an end in good order.
+// Answers 1 if the bytes are a receiving end in good order, else 0; this is no refusal number.
 #[no_mangle]
 pub extern "C" fn pk_receiver_in_order(state: &[u8]) -> u32
-    ensures { λ r. ⌜ r ≡ receiverOrder (now (state .entry)) ⌝ }
+    ensures { λ r. ⌜ r ≡ receiverOrderAnswer (now (state .entry)) ⌝ }
 {
     window_bytes::receiver_in_order(state)
 }
 
-// Takes the PS of a packet that came in.
+// Takes the PS of a received packet. Bit 8 is 1 if PR is due. Refused with 14, 1, then for a PS
+// other than the expected one with 12, 10 or 11.
 #[no_mangle]
 pub extern "C" fn pk_receiver_receive(state: &mut [u8], ps: u8) -> u32
-    ensures { λ r. ⌜ r ≡ receiveCode (now (state .entry)) ps ⌝ }
+    ensures { λ r. ⌜ r ≡ receiveAnswer (now (state .entry)) ps ⌝ }
     ensures { λ _. ⌜ now (state .exit) ≡ receiveBytes (now (state .entry)) ps ⌝ }
 {
     window_bytes::receiver_receive(state, ps)
 }
 
-// The PR to send now.
+// Answers the PR to send now, bits 8 to 15, and sets the count of packets not yet told to 0.
+// Refused with 14.
 #[no_mangle]
 pub extern "C" fn pk_receiver_tell(state: &mut [u8]) -> u32
-    ensures { λ r. ⌜ r ≡ tellCode (now (state .entry)) ⌝ }
+    ensures { λ r. ⌜ r ≡ tellAnswer (now (state .entry)) ⌝ }
     ensures { λ _. ⌜ now (state .exit) ≡ tellBytes (now (state .entry)) ⌝ }
 {
     window_bytes::receiver_tell(state)
 }
 
-// ---- the resequencer
+// ---- the resequencer: a state of 146 bytes, and 32 places for tickets
 
-// Writes a state to which nothing has come.
+// Writes a state in which nothing has arrived, whatever the bytes were. There is no value. Refused
+// with 14.
 #[no_mangle]
 pub extern "C" fn pk_resequencer_fresh(state: &mut [u8]) -> u32
-    ensures { λ r. ⌜ r ≡ freshCode (now (state .entry)) ⌝ }
+    ensures { λ r. ⌜ r ≡ freshAnswer (now (state .entry)) ⌝ }
     ensures { λ _. ⌜ now (state .exit) ≡ freshBytes (now (state .entry)) ⌝ }
 {
     resequencer_bytes::fresh(state)
 }
 
-// Whether the bytes are a state in good order.
+// Answers 1 if the bytes are a state in good order, else 0; this is no refusal number.
 #[no_mangle]
 pub extern "C" fn pk_resequencer_in_order(state: &[u8]) -> u32
-    ensures { λ r. ⌜ r ≡ orderCode (now (state .entry)) ⌝ }
+    ensures { λ r. ⌜ r ≡ orderAnswer (now (state .entry)) ⌝ }
 {
     resequencer_bytes::in_order(state)
 }
 
-// A packet arrives.
+// The packet with the number `sn` arrives; `ticket` is what the caller knows it by. Bits 8 to 15
+// say what became of it: 0 held, 1 handed on, 2 old, 3 duplicate. Bits 16 to 23 are the number of
+// tickets handed on; they are written to `tickets` in order, and 0 to the other places. Refused
+// with 14, 1.
 #[no_mangle]
 pub extern "C" fn pk_resequencer_arrive(
     state: &mut [u8],
@@ -151,38 +171,44 @@ pub extern "C" fn pk_resequencer_arrive(
     sn: u8,
     ticket: u16,
 ) -> u32
-    ensures { λ r. ⌜ r ≡ arriveCode (now (state .entry)) (length (now (tickets .entry))) sn ticket ⌝ }
+    ensures { λ r. ⌜ r ≡ arriveAnswer (now (state .entry)) (length (now (tickets .entry))) sn ticket ⌝ }
     ensures { λ _. ⌜ now (state .exit) ≡ arriveBytes (now (state .entry)) (length (now (tickets .entry))) sn ticket ⌝ }
     ensures { λ _. ⌜ now (tickets .exit) ≡ arriveTickets (now (state .entry)) (now (tickets .entry)) sn ticket ⌝ }
 {
     resequencer_bytes::arrive(state, tickets, sn, ticket)
 }
 
-// The clock of a number ends.
+// The clock of the number `sn` ends. Answers and writes as an arrival that hands on does. Refused
+// with 14, 1, 7.
 #[no_mangle]
 pub extern "C" fn pk_resequencer_clock_end(state: &mut [u8], tickets: &mut [u16], sn: u8) -> u32
-    ensures { λ r. ⌜ r ≡ clockEndCode (now (state .entry)) (length (now (tickets .entry))) sn ⌝ }
+    ensures { λ r. ⌜ r ≡ clockEndAnswer (now (state .entry)) (length (now (tickets .entry))) sn ⌝ }
     ensures { λ _. ⌜ now (state .exit) ≡ clockEndBytes (now (state .entry)) (length (now (tickets .entry))) sn ⌝ }
     ensures { λ _. ⌜ now (tickets .exit) ≡ clockEndTickets (now (state .entry)) (now (tickets .entry)) sn ⌝ }
 {
     resequencer_bytes::clock_end(state, tickets, sn)
 }
 
-// ---- frames
+// ---- frames. A form is a number: 0 short uplink, 1 long uplink, 2 + n long downlink with n
+// segments, where n is 1 to 16. A packet is 10 bytes: its kind, then
+// a byte for each field.
 
-// Writes a packet and its user data as one frame to the front of lent output.
+// Writes a packet and its user data as one frame to the front of `out`; bytes beyond the frame keep
+// what they held. Bits 8 and up are the frame's length. Refused with 14, 1 (a kind, a form or a
+// field that is not valid, or user data with a CLEAR CONFIRMATION), 13, 5.
 #[no_mangle]
 pub extern "C" fn pk_frame_write(form: u8, packet: &[u8], user: &[u8], out: &mut [u8]) -> u64
-    ensures { λ r. ⌜ r ≡ writeCode form (now (packet .entry)) (length (now (user .entry))) (length (now (out .entry))) ⌝ }
+    ensures { λ r. ⌜ r ≡ writeAnswer form (now (packet .entry)) (length (now (user .entry))) (length (now (out .entry))) ⌝ }
     ensures { λ _. ⌜ now (out .exit) ≡ writeBytes form (now (packet .entry)) (now (user .entry)) (now (out .entry)) ⌝ }
 {
     frame_bytes::write(form, packet, user, out)
 }
 
-// Reads a frame, and writes its packet into ten lent bytes.
+// Reads a frame and writes its packet to `packet`. Bits 8 to 15 are the index in `frame` where the
+// user data starts, bits 16 and up its length. Refused with 14, 1 (the form), 2, 3, 13.
 #[no_mangle]
 pub extern "C" fn pk_frame_read(form: u8, frame: &[u8], packet: &mut [u8]) -> u64
-    ensures { λ r. ⌜ r ≡ readCode form (now (frame .entry)) (length (now (packet .entry))) ⌝ }
+    ensures { λ r. ⌜ r ≡ readAnswer form (now (frame .entry)) (length (now (packet .entry))) ⌝ }
     ensures { λ _. ⌜ now (packet .exit) ≡ readBytes form (now (frame .entry)) (now (packet .entry)) ⌝ }
 {
     frame_bytes::read(form, frame, packet)
@@ -190,7 +216,10 @@ pub extern "C" fn pk_frame_read(form: u8, frame: &[u8], packet: &mut [u8]) -> u6
 
 // ---- messages
 
-// Cuts a message into DATA frames.
+// Cuts a message into DATA frames: writes them to `out`, one after the other, and their lengths to
+// `lengths`; places beyond them keep what they held. SN and PS count up from `sn` and `ps`; `pr`
+// and `ch` are the same on all frames. Bits 8 to 31 are the number of frames, bits 32 and up the
+// number of their bytes. Refused with 1, 4, 5.
 #[no_mangle]
 pub extern "C" fn pk_message_cut(
     form: u8,
@@ -202,71 +231,83 @@ pub extern "C" fn pk_message_cut(
     out: &mut [u8],
     lengths: &mut [usize],
 ) -> u64
-    ensures { λ r. ⌜ r ≡ cutCode (cutOf (formAt form) (startAt sn ps pr ch) (now (message .entry)) (length (now (out .entry))) (length (now (lengths .entry)))) ⌝ }
+    ensures { λ r. ⌜ r ≡ cutAnswer (cutOf (formAt form) (startAt sn ps pr ch) (now (message .entry)) (length (now (out .entry))) (length (now (lengths .entry)))) ⌝ }
     ensures { λ _. ⌜ now (out .exit) ≡ cutOutput (formAt form) (startAt sn ps pr ch) (now (message .entry)) (now (out .entry)) (length (now (lengths .entry))) ⌝ }
     ensures { λ _. ⌜ now (lengths .exit) ≡ cutLengths (formAt form) (startAt sn ps pr ch) (now (message .entry)) (length (now (out .entry))) (now (lengths .entry)) ⌝ }
 {
     message_bytes::cut(form, sn, ps, pr, ch, message, out, lengths)
 }
 
-// Joins DATA frames to the message that they carry.
+// Joins the DATA frames in `frames`, one after the other with the given lengths, and writes the
+// message that they carry to the front of `out`. Bits 8 and up are the message's length. Refused
+// with 1, 2 (the lengths do not sum to the bytes, or there are no frames), then frame by frame 2,
+// 3, 13 as in reading, 3 (not DATA, or M = 0 before the last frame), 17, 2 (M = 1 on the last
+// frame), then 4, 5.
 #[no_mangle]
 pub extern "C" fn pk_message_join(form: u8, lengths: &[usize], frames: &[u8], out: &mut [u8]) -> u64
-    ensures { λ r. ⌜ r ≡ joinedCode (joinOf (formAt form) (now (lengths .entry)) (now (frames .entry)) (length (now (out .entry)))) ⌝ }
+    ensures { λ r. ⌜ r ≡ joinedAnswer (joinOf (formAt form) (now (lengths .entry)) (now (frames .entry)) (length (now (out .entry)))) ⌝ }
     ensures { λ _. ⌜ now (out .exit) ≡ joinOutput (formAt form) (now (lengths .entry)) (now (frames .entry)) (now (out .entry)) ⌝ }
 {
     message_bytes::join(form, lengths, frames, out)
 }
 
-// ---- interrogators
+// ---- interrogators: a table of 512 bytes, for each of the 256 ground addresses the set of its
+// codes II, bit n of the set for the code n
 
-// Writes a table in which no address has a code.
+// Writes a table in which no address has a code, whatever the bytes were. There is no value.
+// Refused with 14.
 #[no_mangle]
 pub extern "C" fn pk_table_empty(table: &mut [u8]) -> u32
-    ensures { λ r. ⌜ r ≡ emptyCode (now (table .entry)) ⌝ }
+    ensures { λ r. ⌜ r ≡ emptyAnswer (now (table .entry)) ⌝ }
     ensures { λ _. ⌜ now (table .exit) ≡ emptyBytes (now (table .entry)) ⌝ }
 {
     route_bytes::empty(table)
 }
 
-// The set of an address's codes.
+// The set of an address's codes: bits 8 to 23. Refused with 14.
 #[no_mangle]
 pub extern "C" fn pk_table_codes(table: &[u8], address: u8) -> u32
-    ensures { λ r. ⌜ r ≡ codesCode (now (table .entry)) address ⌝ }
+    ensures { λ r. ⌜ r ≡ codesAnswer (now (table .entry)) address ⌝ }
 {
     route_bytes::codes(table, address)
 }
 
-// How many interrogators an address has.
+// The number of interrogators of an address: bits 8 to 15. Refused with 14.
 #[no_mangle]
 pub extern "C" fn pk_table_count(table: &[u8], address: u8) -> u32
-    ensures { λ r. ⌜ r ≡ countCode (now (table .entry)) address ⌝ }
+    ensures { λ r. ⌜ r ≡ countAnswer (now (table .entry)) address ⌝ }
 {
     route_bytes::count(table, address)
 }
 
-// Chooses an interrogator for an address.
+// Chooses an interrogator for an address: the last-used code `last` if the address has it and it is
+// not in the set `failed`, else the lowest code of the address that is not in `failed`. `last` is
+// 65535 if there is none. Bits 8 to 15 are the code. Refused with 14, 1 (`last` is over 15 and not
+// 65535), 8, 15. With 8, bits 16 to 23 and 24 to 31 are the clearing codes CC and DC.
 #[no_mangle]
 pub extern "C" fn pk_table_choose(table: &[u8], address: u8, last: u16, failed: u16) -> u32
-    ensures { λ r. ⌜ r ≡ chooseCode (now (table .entry)) address last failed ⌝ }
+    ensures { λ r. ⌜ r ≡ chooseAnswer (now (table .entry)) address last failed ⌝ }
 {
     route_bytes::choose(table, address, last, failed)
 }
 
-// Changes a table by a route list.
+// Changes a table by a route list. The addresses that had a code before and have none after are
+// written to `lost`, which has 256 places, rising, and 0 to the other places; bits 8 and up are
+// their number. Refused with 14, 6.
 #[no_mangle]
 pub extern "C" fn pk_table_update(table: &mut [u8], list: &[u8], lost: &mut [u8]) -> u32
-    ensures { λ r. ⌜ r ≡ updateCode (now (table .entry)) (now (list .entry)) (length (now (lost .entry))) ⌝ }
+    ensures { λ r. ⌜ r ≡ updateAnswer (now (table .entry)) (now (list .entry)) (length (now (lost .entry))) ⌝ }
     ensures { λ _. ⌜ now (table .exit) ≡ updateBytes (now (table .entry)) (now (list .entry)) (length (now (lost .entry))) ⌝ }
     ensures { λ _. ⌜ now (lost .exit) ≡ updateLost (now (table .entry)) (now (list .entry)) (now (lost .entry)) ⌝ }
 {
     route_bytes::update(table, list, lost)
 }
 
-// Chooses an interrogator from a set of codes.
+// Chooses an interrogator from the set `codes`, and answers as `pk_table_choose` does. Refused with
+// 1, 8, 15.
 #[no_mangle]
 pub extern "C" fn pk_choose(codes: u16, last: u16, failed: u16) -> u32
-    ensures { λ r. ⌜ r ≡ chooseAmongCode codes last failed ⌝ }
+    ensures { λ r. ⌜ r ≡ chooseAmongAnswer codes last failed ⌝ }
 {
     route_bytes::choose_among(codes, last, failed)
 }

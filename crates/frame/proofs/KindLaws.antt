@@ -1,4 +1,5 @@
--- What holds of every kind: the facts of each are found by computation, a line a kind, and the laws follow from them.
+-- What holds of every kind: the facts of each are found by computation, a line a kind, and the laws
+-- follow from them.
 -- Assumes nothing.
 use mathlib.Core.Path.{_≡_, refl, sym, ap, _∙_, subst}
 use mathlib.Core.Bool.{Bool, true, false, cond, _&&_, _||_, and-assoc, and-true}
@@ -11,13 +12,16 @@ use lib.ListN.{getD, drop}
 use lib.Seq.{getD-drop, drop-drop}
 use borrow.Author.Tests.{ltb-true, lt-ltb, eqb-true}
 use Rattle.refusal.proofs.Checks.{both-true}
-use Rattle.fields.specs.Layouts.{Field, fixed, free, lv, fields, within}
+use Rattle.frame_fields.specs.Layouts.{Field, fixed, free, lv, fields, within}
 use Rattle.frame.specs.declared.Kind.{Kind}
 use Rattle.frame.specs.declared.Kind.the-variants.{Data as DataKind, ClearRequest as ClearRequestKind, ClearConfirmation as ClearConfirmationKind}
 use Rattle.frame.specs.declared.Packet.{Packet}
 use Rattle.frame.specs.declared.Packet.the-variants.{Data, ClearRequest, ClearConfirmation}
-use Rattle.frame.specs.Packets.{layoutOf, kindOf, flag, valuesOf, packetOf}
-use Rattle.frame.specs.Parts.{narrowAfter, Bytes, Fits}
+use Rattle.frame.specs.declared.Data.{Data as DataFields}
+use Rattle.frame.specs.declared.MaybeData.the-variants.{Data as SomeData}
+use Rattle.little.specs.Little.{flag}
+use Rattle.frame.specs.Packets.{layoutOf, kindOf, valuesOf, packetOf, asData}
+use Rattle.frame.specs.Parts.{narrowAfter, Bytes, FitsTested}
 
 -- ---- flags
 
@@ -31,7 +35,7 @@ pub flag-read : (b : Bool) → eqb (flag b) 1 ≡ b
 flag-read true = refl
 flag-read false = refl
 
--- a bit is that of the flag read from it
+-- the flag read from a bit has that bit
 pub bit-read : (x : ℕ) → x < 2 → flag (eqb x 1) ≡ x
 bit-read zero h = refl
 bit-read (suc zero) h = refl
@@ -77,7 +81,7 @@ kept-value w v h = go (eqb w 1) refl
     go true e = bit-read v (subst (λ (x : ℕ). v < 2 ^ x) (eqb-true w 1 e) h)
     go false e = refl
 
--- and so are all
+-- all values within their widths are kept as they are
 kept-all : (fs : List Field) (vs : List ℕ) (i : ℕ) (ds : List ℕ) → drop i vs ≡ ds → within fs ds ≡ true → kept fs vs i ≡ ds
 kept-all [] vs i [] e h = refl
 kept-all [] vs i (d ∷ ds) e h = let z : _≡_ {A = ℕ} 0 1 = cc in absurd (omega arith)
@@ -115,7 +119,7 @@ first-byte (suc zero) fs v vs h = (λ e. let z : _≡_ {A = ℕ} 0 1 = cc in abs
 first-byte (suc (suc w)) fs v vs h =
     (λ e. lt-ltb v (2 ^ suc (suc w)) (subst (λ (x : ℕ). v < 2 ^ x) (sym (eqb-true (suc (suc w)) 8 e)) (h .0)), h .1)
 
--- what a packet keeps fits if the tests that are made hold
+-- the values that a packet keeps fit exactly if the tests that are made hold
 narrow-kept : (b : Bool) (fs : List Field) (vs : List ℕ) (i : ℕ) → Bytes fs (kept fs vs i) → narrowAfter b fs (kept fs vs i) ≡ (b && within fs (kept fs vs i))
 narrow-kept b [] vs i h = sym (and-true b)
 narrow-kept b (fixed w x ∷ fs) vs i h = narrow-kept b fs vs i h
@@ -131,7 +135,7 @@ narrow-kept b (free w ∷ fs) vs i h =
     one false e f = let z : _≡_ {A = ℕ} 0 1 = cc in absurd (omega arith)
 
 -- so the fields of every kind fit exactly if those tests hold
-pub fits-within : (p : Packet) (r : Bool) → Fits p r → r ≡ within (fields (layoutOf (kindOf p))) (valuesOf p)
+pub fits-within : (p : Packet) (r : Bool) → FitsTested p r → r ≡ within (fields (layoutOf (kindOf p))) (valuesOf p)
 fits-within p r h =
     let k = kindOf p in
     let fs = fields (layoutOf k) in
@@ -139,3 +143,16 @@ fits-within p r h =
     h .0
     ∙ subst (λ (vs : List ℕ). narrowAfter true fs vs ≡ within fs vs) e
     (narrow-kept true fs (valuesOf p) 0 (subst (λ (vs : List ℕ). Bytes fs vs) (sym e) (h .1)))
+
+-- ---- the DATA packet
+
+pub data-is : (p : Packet) (d : DataFields) → asData p ≡ SomeData d → p ≡ Data d
+data-is (Data e) d h = cc
+data-is (ClearRequest e) d h = let z : _≡_ {A = ℕ} 0 1 = cc in absurd (omega arith)
+data-is (ClearConfirmation e) d h = let z : _≡_ {A = ℕ} 0 1 = cc in absurd (omega arith)
+
+-- a packet that is DATA was made of that kind
+pub data-kind : (k : Kind) (vs : List ℕ) (d : DataFields) → asData (packetOf k vs) ≡ SomeData d → k ≡ DataKind
+data-kind DataKind vs d h = refl
+data-kind ClearRequestKind vs d h = let z : _≡_ {A = ℕ} 0 1 = cc in absurd (omega arith)
+data-kind ClearConfirmationKind vs d h = let z : _≡_ {A = ℕ} 0 1 = cc in absurd (omega arith)

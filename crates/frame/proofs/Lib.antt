@@ -1,5 +1,8 @@
 -- What is proved of frames.
 pub mod KindLaws
-pub mod Heads
+pub mod Headers
 pub mod Seen
 pub mod Readings
+pub mod Contents
+pub mod Table
+pub mod Frames

@@ -1,4 +1,4 @@
--- What the contracts of `frame` cite.
+-- The definitions that the contracts of `frame` use.
 pub mod Packets
 pub mod Writing
 pub mod Reading

@@ -1,19 +1,21 @@
-// Frames of the packets of the link: written into lent output, and read.
+// Frames of the packets of the link, DATA, CLEAR REQUEST and CLEAR CONFIRMATION: written into lent
+// output, and read (document 01, "Forms and frames").
 ghost use mathlib.Core.Path.{_≡_};
 ghost use Prim.Native.Nat.{_^_, _<_, _≤_};
 ghost use lib.ListN.{length};
-ghost use Rattle.fields.specs.Rows.{numberIn};
-ghost use Rattle.codec.specs.Reading.{shapeVerdict};
-ghost use Rattle.frame.specs.Packets.{flag, kinds};
-ghost use Rattle.frame.specs.Parts.{Fits, headOf, wholeHead, packetAt, HeaderIn};
+ghost use Rattle.frame_fields.specs.Rows.{numberIn};
+ghost use Rattle.frame_codec.specs.Reading.{shapeVerdict};
+ghost use Rattle.little.specs.Little.{flag};
+ghost use Rattle.frame.specs.Packets.{kinds, asData, snOf};
+ghost use Rattle.frame.specs.Parts.{FitsTested, headerOf, wholeHeader, packetAt, HeaderIn};
 ghost use Rattle.frame.specs.Writing.{writeOf, writeOutput};
 ghost use Rattle.frame.specs.Reading.{readNumber, firstNamed, readAs, readOf, partOf};
-use codec::Extent;
-use codec::Head;
-use codec::Seen;
-use codec::UserLength;
-use codec::Written;
-use form::Form;
+use frame_codec::Extent;
+use frame_codec::Header;
+use frame_codec::SeenHeader;
+use frame_codec::UserLength;
+use frame_codec::Written;
+use frame_form::Form;
 use refusal::Refusal;
 use refusal::Verdict;
 use sequence::LinkNumber;
@@ -23,8 +25,11 @@ use sequence::PacketNumber;
 pub struct Data {
     // M: more of the message follows
     pub m: bool,
+    // link sequence number, 0 to 63
     pub sn: LinkNumber,
+    // packet sequence number, 0 to 15
     pub ps: PacketNumber,
+    // the packet sequence number that the sender expects next, 0 to 15
     pub pr: PacketNumber,
     // channel, 0 to 15
     pub ch: u8,
@@ -34,6 +39,7 @@ pub struct Data {
 pub struct ClearRequest {
     // temporary channel, 0 to 3
     pub tc: u8,
+    // link sequence number, 0 to 63
     pub sn: LinkNumber,
     // channel, 0 to 15
     pub ch: u8,
@@ -41,15 +47,17 @@ pub struct ClearRequest {
     pub am: u8,
     // ground address
     pub ag: u8,
-    // clearing cause and diagnostic code
+    // clearing cause
     pub cc: u8,
+    // diagnostic code
     pub dc: u8,
-    // S and F: more pieces follow; this is not the first piece
+    // S: more pieces follow
     pub s: bool,
+    // F: this is not the first piece
     pub f: bool,
 }
 
-// The fields of a CLEAR CONFIRMATION packet, as in a CLEAR REQUEST.
+// The fields of a CLEAR CONFIRMATION packet, with the same meaning and range as in a CLEAR REQUEST.
 pub struct ClearConfirmation {
     pub tc: u8,
     pub sn: LinkNumber,
@@ -58,7 +66,7 @@ pub struct ClearConfirmation {
     pub ag: u8,
 }
 
-// A packet, of one of the kinds.
+// A packet of any kind.
 pub enum Packet {
     Data(Data),
     ClearRequest(ClearRequest),
@@ -72,26 +80,32 @@ pub enum Kind {
     ClearConfirmation,
 }
 
-// The kind that a frame's first byte names.
+// A DATA packet, or nothing: what `Packet::data` answers.
+pub enum MaybeData {
+    Nothing,
+    Data(Data),
+}
+
+// The kind that a frame's first byte names, if it names one.
 pub enum Found {
     Known(Kind),
     Unknown,
 }
 
-// Where the user data stands in a frame: the index of its first byte, and its length.
+// Where the user data is in a frame: the index of its first byte, and its length in bytes.
 pub struct UserData {
     pub at: usize,
     pub len: usize,
 }
 
-// What stands in a frame, or why it is refused.
+// What a frame contains, its packet and where the user data is, or why the frame is refused.
 pub enum Read {
     Packet(Packet, UserData),
     Refused(Refusal),
 }
 
 impl Read {
-    // The number of document 01's table: 0 where the frame reads.
+    // The number of document 01's table: 0 if the frame was read.
     pub fn number(self) -> u8
         ensures { λ r. ⌜ r ≡ readNumber self ⌝ }
     {
@@ -102,13 +116,14 @@ impl Read {
     }
 }
 
-// A header as it stands in a frame: the number of its bytes, and what is seen in it.
-struct Header {
+// A header that was read from a frame: its bytes as one number, the first byte highest, and what
+// `frame_codec` needs to know of it.
+struct NumberedHeader {
     number: u64,
-    seen: Seen,
+    seen: SeenHeader,
 }
 
-// A flag's bit.
+// The bit of a flag: 1 if it is set, else 0.
 fn bit(set: bool) -> u64
     ensures { λ r. ⌜ r ≡ flag set ⌝ }
     ensures small { λ r. ⌜ r < 2 ⌝ }
@@ -116,19 +131,22 @@ fn bit(set: bool) -> u64
     if set { 1 } else { 0 }
 }
 
-// ---- headers, written and read: each is one number, the first field highest, and a field is read back by its place and its width
+// ---- headers. A header is one number, "first bit highest": each field in turn is appended below
+// those before it, and it is read back by dividing by the power
+// of two below it and taking the remainder by that of its width
 
 impl Data {
-    // Whether every field holds its value; flags and whole bytes always do.
+    // Whether every value fits its field. Flags and fields of eight bits need no test.
     fn fits(self) -> bool
-        ensures { λ r. ⌜ Fits (Packet.Data self) r ⌝ }
+        ensures { λ r. ⌜ FitsTested (Packet.Data self) r ⌝ }
     {
         (self.sn.0 < 64) & (self.ps.0 < 16) & (self.pr.0 < 16) & (self.ch < 16)
     }
 
-    fn head(self, lv: u64) -> u64
+    // The header as one number, with LV.
+    fn header_number(self, lv: u64) -> u64
         requires { ⌜ lv < 16 ⌝ }
-        ensures { λ r. ⌜ r ≡ headOf (Packet.Data self) lv ⌝ }
+        ensures { λ r. ⌜ r ≡ headerOf (Packet.Data self) lv ⌝ }
     {
         let h = 2 + bit(self.m);
         let h = h * 64 + self.sn.0 as u64;
@@ -138,19 +156,20 @@ impl Data {
         h * 16 + lv
     }
 
-    // The header of a frame with so many bytes of user data, and whether the packet fits.
-    fn whole_head(self, form: Form, user: usize) -> Head
+    // The header of a frame with `user` bytes of user data, and whether every value fits its field.
+    fn whole_header(self, form: Form, user: usize) -> Header
         requires { ⌜ user < 2 ^ 63 ⌝ }
-        ensures { λ r. ⌜ r ≡ wholeHead form (Packet.Data self) user ⌝ }
+        ensures { λ r. ⌜ r ≡ wholeHeader form (Packet.Data self) user ⌝ }
     {
         let lv = form.last_used(3 + user);
-        Head {
+        Header {
             fits: self.fits(),
             size: 3,
-            number: self.head(lv as u64),
+            number: self.header_number(lv as u64),
         }
     }
 
+    // The packet whose header is the number `h`.
     fn from(h: u64) -> Data
         ensures { λ r. ⌜ Packet.Data r ≡ packetAt Kind.Data h ⌝ }
     {
@@ -165,16 +184,17 @@ impl Data {
 }
 
 impl ClearRequest {
-    // Whether every field holds its value; flags and whole bytes always do.
+    // Whether every value fits its field. Flags and fields of eight bits need no test.
     fn fits(self) -> bool
-        ensures { λ r. ⌜ Fits (Packet.ClearRequest self) r ⌝ }
+        ensures { λ r. ⌜ FitsTested (Packet.ClearRequest self) r ⌝ }
     {
         (self.tc < 4) & (self.sn.0 < 64) & (self.ch < 16) & (self.am < 16)
     }
 
-    fn head(self, lv: u64) -> u64
+    // The header as one number, with LV.
+    fn header_number(self, lv: u64) -> u64
         requires { ⌜ lv < 16 ⌝ }
-        ensures { λ r. ⌜ r ≡ headOf (Packet.ClearRequest self) lv ⌝ }
+        ensures { λ r. ⌜ r ≡ headerOf (Packet.ClearRequest self) lv ⌝ }
     {
         let h = 352 + self.tc as u64;
         let h = h * 64 + self.sn.0 as u64;
@@ -189,19 +209,20 @@ impl ClearRequest {
         h * 16 + lv
     }
 
-    // The header of a frame with so many bytes of user data, and whether the packet fits.
-    fn whole_head(self, form: Form, user: usize) -> Head
+    // The header of a frame with `user` bytes of user data, and whether every value fits its field.
+    fn whole_header(self, form: Form, user: usize) -> Header
         requires { ⌜ user < 2 ^ 63 ⌝ }
-        ensures { λ r. ⌜ r ≡ wholeHead form (Packet.ClearRequest self) user ⌝ }
+        ensures { λ r. ⌜ r ≡ wholeHeader form (Packet.ClearRequest self) user ⌝ }
     {
         let lv = form.last_used(7 + user);
-        Head {
+        Header {
             fits: self.fits(),
             size: 7,
-            number: self.head(lv as u64),
+            number: self.header_number(lv as u64),
         }
     }
 
+    // The packet whose header is the number `h`.
     fn from(h: u64) -> ClearRequest
         ensures { λ r. ⌜ Packet.ClearRequest r ≡ packetAt Kind.ClearRequest h ⌝ }
     {
@@ -220,15 +241,16 @@ impl ClearRequest {
 }
 
 impl ClearConfirmation {
-    // Whether every field holds its value; flags and whole bytes always do.
+    // Whether every value fits its field. Flags and fields of eight bits need no test.
     fn fits(self) -> bool
-        ensures { λ r. ⌜ Fits (Packet.ClearConfirmation self) r ⌝ }
+        ensures { λ r. ⌜ FitsTested (Packet.ClearConfirmation self) r ⌝ }
     {
         (self.tc < 4) & (self.sn.0 < 64) & (self.ch < 16) & (self.am < 16)
     }
 
-    fn head(self) -> u64
-        ensures { λ r. ⌜ r ≡ headOf (Packet.ClearConfirmation self) 0 ⌝ }
+    // The header as one number. It has no LV.
+    fn header_number(self) -> u64
+        ensures { λ r. ⌜ r ≡ headerOf (Packet.ClearConfirmation self) 0 ⌝ }
     {
         let h = 368 + self.tc as u64;
         let h = h * 64 + self.sn.0 as u64;
@@ -237,17 +259,19 @@ impl ClearConfirmation {
         h * 256 + self.ag as u64
     }
 
-    // The header of a frame, the same in every form, and whether the packet fits: user data has no place in it.
-    fn whole_head(self, user: usize) -> Head
-        ensures { λ r. ⌜ r ≡ wholeHead Form.ShortUplink (Packet.ClearConfirmation self) user ⌝ }
+    // The header of a frame, the same in every form, and whether every value fits its field. User
+    // data does not fit: a CLEAR CONFIRMATION has no LV, so that it could not be read back.
+    fn whole_header(self, user: usize) -> Header
+        ensures { λ r. ⌜ r ≡ wholeHeader Form.ShortUplink (Packet.ClearConfirmation self) user ⌝ }
     {
-        Head {
+        Header {
             fits: self.fits() & (user == 0),
             size: 4,
-            number: self.head(),
+            number: self.header_number(),
         }
     }
 
+    // The packet whose header is the number `h`.
     fn from(h: u64) -> ClearConfirmation
         ensures { λ r. ⌜ Packet.ClearConfirmation r ≡ packetAt Kind.ClearConfirmation h ⌝ }
     {
@@ -262,7 +286,7 @@ impl ClearConfirmation {
 }
 
 impl Packet {
-    // The packet of a kind whose header is the number h.
+    // The packet of kind `kind` whose header is the number `h`.
     fn from(kind: Kind, h: u64) -> Packet
         ensures { λ r. ⌜ r ≡ packetAt kind h ⌝ }
     {
@@ -272,33 +296,68 @@ impl Packet {
             Kind::ClearConfirmation => Packet::ClearConfirmation(ClearConfirmation::from(h)),
         }
     }
+
+    // The packet if it is DATA, else nothing.
+    pub fn data(self) -> MaybeData
+        ensures { λ r. ⌜ r ≡ asData self ⌝ }
+    {
+        match self {
+            Packet::Data(d) => MaybeData::Data(d),
+            Packet::ClearRequest(_d) => MaybeData::Nothing,
+            Packet::ClearConfirmation(_d) => MaybeData::Nothing,
+        }
+    }
+
+    // The packet's link sequence number.
+    pub fn sn(self) -> LinkNumber
+        ensures { λ r. ⌜ r ≡ snOf self ⌝ }
+    {
+        match self {
+            Packet::Data(d) => d.sn,
+            Packet::ClearRequest(d) => d.sn,
+            Packet::ClearConfirmation(d) => d.sn,
+        }
+    }
 }
 
 // ---- writing
 
-// Writes a DATA packet and its user data as one frame to the front of lent output.
+// Writes a DATA packet and its user data as one frame to the front of `out`: what `write_frame`
+// does for DATA. For `message`, which writes DATA only; other callers use `write_frame`.
 pub fn write_data(form: Form, packet: Data, user: &[u8], out: &mut [u8]) -> Written
     ensures { λ r. ⌜ r ≡ writeOf form (Packet.Data packet) (length (now (user .entry))) (length (now (out .entry))) ⌝ }
     ensures written { λ _. ⌜ now (out .exit) ≡ writeOutput form (Packet.Data packet) (now (user .entry)) (now (out .entry)) ⌝ }
 {
-    codec::put(form, packet.whole_head(form, user.len()), user, out)
+    frame_codec::put(form, packet.whole_header(form, user.len()), user, out)
 }
 
-// Writes a packet and its user data as one frame to the front of lent output. Each kind has a call of its own, so that a compiler knows the header's length.
+// Writes a packet and its user data as one frame to the front of `out`, and answers the frame's
+// length. Checks 1, 13, 5; a refusal writes nothing, and bytes beyond the frame keep what they
+// held. Each kind has a call of its own, so that a compiler knows the header's length.
 pub fn write_frame(form: Form, packet: Packet, user: &[u8], out: &mut [u8]) -> Written
     ensures { λ r. ⌜ r ≡ writeOf form packet (length (now (user .entry))) (length (now (out .entry))) ⌝ }
     ensures written { λ _. ⌜ now (out .exit) ≡ writeOutput form packet (now (user .entry)) (now (out .entry)) ⌝ }
 {
     match packet {
-        Packet::Data(d) => codec::put(form, d.whole_head(form, user.len()), user, out),
-        Packet::ClearRequest(d) => codec::put(form, d.whole_head(form, user.len()), user, out),
-        Packet::ClearConfirmation(d) => codec::put(form, d.whole_head(user.len()), user, out),
+        Packet::Data(d) => frame_codec::put(form, d.whole_header(form, user.len()), user, out),
+        Packet::ClearRequest(d) => frame_codec::put(
+            form,
+            d.whole_header(form, user.len()),
+            user,
+            out,
+        ),
+        Packet::ClearConfirmation(d) => frame_codec::put(
+            form,
+            d.whole_header(user.len()),
+            user,
+            out,
+        ),
     }
 }
 
 // ---- reading
 
-// The kind that a frame's first byte names, by the table of kinds.
+// The kind that a frame's first byte names: DP = 1 is DATA; else DP, MP, SP and ST together decide.
 fn named(first: u8) -> Found
     ensures { λ r. ⌜ r ≡ firstNamed kinds first ⌝ }
 {
@@ -313,7 +372,7 @@ fn named(first: u8) -> Found
     }
 }
 
-// The number that the first k bytes write, the first one highest.
+// The first `k` bytes of `frame` as one number, the first byte highest.
 fn number_in(frame: &[u8], k: usize) -> u64
     requires { ⌜ (k ≤ 8) × (k ≤ length (now frame)) ⌝ }
     ensures { λ r. ⌜ r ≡ numberIn k (now (frame .entry)) ⌝ }
@@ -327,25 +386,25 @@ fn number_in(frame: &[u8], k: usize) -> u64
     h
 }
 
-// The header of a DATA packet.
-fn data_in(frame: &[u8]) -> Header
+// The header of `frame`, read as DATA.
+fn data_in(frame: &[u8]) -> NumberedHeader
     requires { ⌜ 7 ≤ length (now frame) ⌝ }
     ensures { λ r. ⌜ HeaderIn Kind.Data (now (frame .entry)) (r .number) (r .seen) ⌝ }
 {
     let h = number_in(frame, 3);
-    let seen = Seen {
+    let seen = SeenHeader {
         right: h / 8388608 % 2 == 1,
         size: 3,
         extent: Extent::ByLv((h % 16) as u8),
     };
-    Header {
+    NumberedHeader {
         number: h,
         seen: seen,
     }
 }
 
-// The header of a CLEAR REQUEST packet.
-fn request_in(frame: &[u8]) -> Header
+// The header of `frame`, read as CLEAR REQUEST.
+fn request_in(frame: &[u8]) -> NumberedHeader
     requires { ⌜ 7 ≤ length (now frame) ⌝ }
     ensures { λ r. ⌜ HeaderIn Kind.ClearRequest (now (frame .entry)) (r .number) (r .seen) ⌝ }
 {
@@ -353,38 +412,38 @@ fn request_in(frame: &[u8]) -> Header
     let first = (h / 36028797018963968 % 2 == 0) & (h / 18014398509481984 % 2 == 1);
     let kind = (h / 4503599627370496 % 4 == 1) & (h / 1125899906842624 % 4 == 2);
     let fill = (h / 281474976710656 % 4 == 0) & (h / 32 % 4 == 0);
-    let seen = Seen {
+    let seen = SeenHeader {
         right: first & kind & fill,
         size: 7,
         extent: Extent::ByLv((h % 16) as u8),
     };
-    Header {
+    NumberedHeader {
         number: h,
         seen: seen,
     }
 }
 
-// The header of a CLEAR CONFIRMATION packet.
-fn confirmation_in(frame: &[u8]) -> Header
+// The header of `frame`, read as CLEAR CONFIRMATION.
+fn confirmation_in(frame: &[u8]) -> NumberedHeader
     requires { ⌜ 7 ≤ length (now frame) ⌝ }
     ensures { λ r. ⌜ HeaderIn Kind.ClearConfirmation (now (frame .entry)) (r .number) (r .seen) ⌝ }
 {
     let h = number_in(frame, 4);
     let first = (h / 2147483648 % 2 == 0) & (h / 1073741824 % 2 == 1);
     let kind = (h / 268435456 % 4 == 1) & (h / 67108864 % 4 == 3);
-    let seen = Seen {
+    let seen = SeenHeader {
         right: first & kind & (h / 16777216 % 4 == 0),
         size: 4,
         extent: Extent::Exactly(4),
     };
-    Header {
+    NumberedHeader {
         number: h,
         seen: seen,
     }
 }
 
-// The header of a packet of a kind.
-fn header_in(frame: &[u8], kind: Kind) -> Header
+// The header of `frame`, read as a packet of kind `kind`.
+fn header_in(frame: &[u8], kind: Kind) -> NumberedHeader
     requires { ⌜ 7 ≤ length (now frame) ⌝ }
     ensures { λ r. ⌜ HeaderIn kind (now (frame .entry)) (r .number) (r .seen) ⌝ }
 {
@@ -395,14 +454,14 @@ fn header_in(frame: &[u8], kind: Kind) -> Header
     }
 }
 
-// Reads a frame of a kind, of at least one segment, checked in the order 1, 2, 3, 13.
+// Reads a frame of at least 7 bytes as a packet of kind `kind`, checked in the order 1, 2, 3, 13.
 fn read_known(form: Form, frame: &[u8], kind: Kind) -> Read
     requires { ⌜ 7 ≤ length (now frame) ⌝ }
     ensures { λ r. ⌜ r ≡ readAs (Found.Known kind) form (now (frame .entry)) ⌝ }
 {
     let header = header_in(frame, kind);
     let seen = header.seen;
-    let length = codec::user_length(form, frame, seen);
+    let length = frame_codec::user_length(form, frame, seen);
     match length {
         UserLength::Bytes(n) => Read::Packet(
             Packet::from(kind, header.number),
@@ -415,7 +474,8 @@ fn read_known(form: Form, frame: &[u8], kind: Kind) -> Read
     }
 }
 
-// Reads a frame of whole segments, whose first byte names its kind.
+// Reads a frame of whole segments. Its first byte names the kind; a byte that names none is refusal
+// 3.
 fn read_whole(form: Form, frame: &[u8]) -> Read
     requires { ⌜ (7 ≤ length (now frame)) × (shapeVerdict form (length (now frame)) ≡ Verdict.Done) ⌝ }
     ensures { λ r. ⌜ r ≡ readOf form (now (frame .entry)) ⌝ }
@@ -427,14 +487,15 @@ fn read_whole(form: Form, frame: &[u8]) -> Read
     }
 }
 
-// Reads a DATA frame of whole segments: what `read_known` does of that kind. With the kind known beforehand, joining takes a quarter less.
+// Reads a frame of at least 7 bytes as DATA: what `read_known` does for that kind. It is written
+// out because joining takes a quarter less time with the kind fixed.
 fn read_whole_data(form: Form, frame: &[u8]) -> Read
     requires { ⌜ 7 ≤ length (now frame) ⌝ }
     ensures { λ r. ⌜ r ≡ readAs (Found.Known Kind.Data) form (now (frame .entry)) ⌝ }
 {
     let header = data_in(frame);
     let seen = header.seen;
-    let length = codec::user_length(form, frame, seen);
+    let length = frame_codec::user_length(form, frame, seen);
     match length {
         UserLength::Bytes(n) => Read::Packet(
             Packet::Data(Data::from(header.number)),
@@ -444,29 +505,33 @@ fn read_whole_data(form: Form, frame: &[u8]) -> Read
     }
 }
 
-// Reads a frame as DATA, whatever its first byte names.
+// Reads a frame as DATA, whatever kind its first byte names; a frame that is not DATA is refused.
+// For `message`, which calls it for frames whose first bit is that of DATA; other callers use
+// `read_frame`.
 pub fn read_data(form: Form, frame: &[u8]) -> Read
     ensures { λ r. ⌜ r ≡ readAs (Found.Known Kind.Data) form (now (frame .entry)) ⌝ }
 {
-    let shape = codec::check_shape(form, frame.len());
+    let shape = frame_codec::check_shape(form, frame.len());
     match shape {
         Verdict::Done => read_whole_data(form, frame),
         Verdict::Refused(why) => Read::Refused(why),
     }
 }
 
-// Reads a frame, checked in the order 1, 2, 3, 13. The shape is looked at before the header is read, so that a header's bytes are there.
+// Reads a frame, checked in the order 1, 2, 3, 13. The form and the length are checked first, so
+// that the frame has at least the 7 bytes of the longest header.
 pub fn read_frame(form: Form, frame: &[u8]) -> Read
     ensures { λ r. ⌜ r ≡ readOf form (now (frame .entry)) ⌝ }
 {
-    let shape = codec::check_shape(form, frame.len());
+    let shape = frame_codec::check_shape(form, frame.len());
     match shape {
         Verdict::Done => read_whole(form, frame),
         Verdict::Refused(why) => Read::Refused(why),
     }
 }
 
-// The user data of a frame, as a part of it; what a place names past the frame's end is not there.
+// The user data of a frame, as a part of it. `place` is what reading answered; for another place,
+// the part ends at the frame's end.
 pub fn user_data(frame: &[u8], place: UserData) -> &[u8]
     ensures { λ r. ⌜ now r ≡ partOf (now (frame .entry)) place ⌝ }
 {

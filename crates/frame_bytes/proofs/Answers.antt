@@ -9,10 +9,10 @@ use lib.ListN.{length, getD, drop}
 use borrow.Author.Tests.{eq-eqb, ne-eqb}
 use Rattle.refusal.specs.declared.Refusal.{Refusal}
 use Rattle.refusal.specs.Numbers.{numberOf}
-use Rattle.form.specs.declared.Form.{Form}
-use Rattle.form.specs.Forms.{formAt}
-use Rattle.codec.specs.declared.Written.{Written}
-use Rattle.codec.specs.declared.Written.the-variants.{Done as WrittenDone, Refused as NotWritten}
+use Rattle.frame_form.specs.declared.Form.{Form}
+use Rattle.frame_form.specs.Forms.{formAt}
+use Rattle.frame_codec.specs.declared.Written.{Written}
+use Rattle.frame_codec.specs.declared.Written.the-variants.{Done as WrittenDone, Refused as NotWritten}
 use Rattle.frame.specs.declared.Kind.{Kind}
 use Rattle.frame.specs.declared.Packet.{Packet}
 use Rattle.frame.specs.declared.Found.{Found}
@@ -21,30 +21,30 @@ use Rattle.frame.specs.declared.Read.{Read}
 use Rattle.frame.specs.Packets.{packetOf}
 use Rattle.frame.specs.Writing.{writeOf, writeOutput}
 use Rattle.frame.specs.Reading.{readOf}
-use Rattle.frame_bytes.specs.Stored.{kindAt, flagsFit, writtenCode, writeCodeBy, writeCode, writeBytesBy, writeBytes, readCodeBy, readCode, readBytesBy, readBytes}
+use Rattle.frame_bytes.specs.Stored.{kindAt, flagsFit, writtenAnswer, writeAnswerBy, writeAnswer, writeBytesBy, writeBytes, readAnswerBy, readAnswer, readBytesBy, readBytes}
 
 -- ---- writing
 
-pub done-code : (n : ℕ) → 256 * n ≡ writtenCode (WrittenDone n)
+pub done-code : (n : ℕ) → 256 * n ≡ writtenAnswer (WrittenDone n)
 done-code n = omega arith
 
-pub refused-code : (why : Refusal) → numberOf why ≡ writtenCode (NotWritten why)
+pub refused-code : (why : Refusal) → numberOf why ≡ writtenAnswer (NotWritten why)
 refused-code why = omega arith
 
 module _ (k : Kind) (form : ℕ) (values : List ℕ) (f : Form) (p : Packet) (ef : f ≡ formAt form) (ep : p ≡ packetOf k values) where
   pub known-code : (user room : ℕ) (w : Written) → flagsFit k values ≡ true → w ≡ writeOf f p user room
-      → writtenCode w ≡ writeCodeBy (Known k) form values user room
+      → writtenAnswer w ≡ writeAnswerBy (Known k) form values user room
   known-code user room w e ew = rw (e, ← ef, ← ep, ← ew)
 
   pub known-bytes : (user out : List ℕ) (after : List ℕ) → flagsFit k values ≡ true → after ≡ writeOutput f p user out
       → after ≡ writeBytesBy (Known k) form values user out
   known-bytes user out after e ea = rw (e, ← ef, ← ep, ← ea)
 
--- ten bytes, or not
+-- a packet of ten bytes, and of another length
 module _ (form : ℕ) (bytes : List ℕ) where
   pub ten-code : (found : Found) (user room : ℕ) → length bytes ≡ 10 → found ≡ kindAt (getD bytes 0 0)
-      → writeCodeBy found form (drop 1 bytes) user room ≡ writeCode form bytes user room
-  unfolding writeCode
+      → writeAnswerBy found form (drop 1 bytes) user room ≡ writeAnswer form bytes user room
+  unfolding writeAnswer
   ten-code found user room e ek = rw (eq-eqb (length bytes) 10 e, ← ek)
 
   pub ten-bytes : (found : Found) (user out : List ℕ) → length bytes ≡ 10 → found ≡ kindAt (getD bytes 0 0)
@@ -52,8 +52,8 @@ module _ (form : ℕ) (bytes : List ℕ) where
   unfolding writeBytes
   ten-bytes found user out e ek = rw (eq-eqb (length bytes) 10 e, ← ek)
 
-  pub other-code : (user room : ℕ) → (length bytes ≡ 10 → ⊥) → 14 ≡ writeCode form bytes user room
-  unfolding writeCode
+  pub other-code : (user room : ℕ) → (length bytes ≡ 10 → ⊥) → 14 ≡ writeAnswer form bytes user room
+  unfolding writeAnswer
   other-code user room e = rw (ne-eqb (length bytes) 10 e)
 
   pub other-bytes : (user out : List ℕ) → (length bytes ≡ 10 → ⊥) → out ≡ writeBytes form bytes user out
@@ -63,16 +63,16 @@ module _ (form : ℕ) (bytes : List ℕ) where
 -- ---- reading
 
 module _ (form : ℕ) (frame bytes : List ℕ) where
-  pub read-code : (read : Read) → length bytes ≡ 10 → read ≡ readOf (formAt form) frame → readCodeBy read ≡ readCode form frame (length bytes)
-  unfolding readCode
+  pub read-code : (read : Read) → length bytes ≡ 10 → read ≡ readOf (formAt form) frame → readAnswerBy read ≡ readAnswer form frame (length bytes)
+  unfolding readAnswer
   read-code read e er = rw (eq-eqb (length bytes) 10 e, ← er)
 
   pub read-bytes : (read : Read) → length bytes ≡ 10 → read ≡ readOf (formAt form) frame → readBytesBy read bytes ≡ readBytes form frame bytes
   unfolding readBytes
   read-bytes read e er = rw (eq-eqb (length bytes) 10 e, ← er)
 
-  pub unread-code : (length bytes ≡ 10 → ⊥) → 14 ≡ readCode form frame (length bytes)
-  unfolding readCode
+  pub unread-code : (length bytes ≡ 10 → ⊥) → 14 ≡ readAnswer form frame (length bytes)
+  unfolding readAnswer
   unread-code e = rw (ne-eqb (length bytes) 10 e)
 
   pub unread-bytes : (length bytes ≡ 10 → ⊥) → bytes ≡ readBytes form frame bytes

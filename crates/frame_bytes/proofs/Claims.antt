@@ -1,4 +1,5 @@
--- The claims about packets in bytes: a line a kind, and a case of the checks after the other.
+-- The proofs of the claims about packets in bytes: one line for each kind, and one case for each
+-- check.
 -- Assumes nothing.
 use mathlib.Core.Path.{_≡_, refl}
 use mathlib.Core.Bool.{Bool, true, false, cond}
@@ -13,9 +14,9 @@ use Rattle.refusal.specs.declared.Verdict.{Verdict}
 use Rattle.refusal.specs.declared.Verdict.the-variants.{Done, Refused}
 use Rattle.refusal.specs.Numbers.{numberOf}
 use Rattle.refusal.proofs.Numbers.{number-alone}
-use Rattle.form.specs.Forms.{formAt, segOf}
-use Rattle.form.specs.Segments.{frameLength}
-use Rattle.codec.specs.Writing.{writtenBy, outputBy}
+use Rattle.frame_form.specs.Forms.{formAt, segOf}
+use Rattle.frame_form.specs.Segments.{frameLength}
+use Rattle.frame_codec.specs.Writing.{writtenBy, outputBy}
 use Rattle.frame.specs.declared.Packet.{Packet}
 use Rattle.frame.specs.declared.Packet.the-variants.{Data as DataPacket, ClearRequest as RequestPacket, ClearConfirmation as ConfirmationPacket}
 use Rattle.frame.specs.declared.Kind.{Kind}
@@ -23,12 +24,13 @@ use Rattle.frame.specs.declared.Found.{Found}
 use Rattle.frame.specs.declared.Found.the-variants.{Known, Unknown}
 use Rattle.frame.specs.declared.Read.{Read}
 use Rattle.frame.specs.declared.Read.the-variants.{Packet as PacketRead, Refused as NotRead}
-use Rattle.frame.specs.Packets.{flag, packetOf}
+use Rattle.little.specs.Little.{flag}
+use Rattle.frame.specs.Packets.{packetOf}
 use Rattle.frame.specs.Writing.{lengthOf, frameOf, frameVerdict, writeOf, writeOutput}
 use Rattle.frame.specs.Reading.{readOf}
 use Rattle.frame.proofs.KindLaws.{flag-read}
-use Rattle.frame_bytes.specs.Stored.{packetBytes, kindAt, flagsFit, writtenCode, writeCodeBy, writeCode, writeBytesBy, writeBytes, readCodeBy, readCode, readBytesBy, readBytes}
-use Rattle.frame_bytes.specs.Claims.{PacketBack, FrameBytesClaim}
+use Rattle.frame_bytes.specs.Stored.{packetBytes, kindAt, flagsFit, writtenAnswer, writeAnswerBy, writeAnswer, writeBytesBy, writeBytes, readAnswerBy, readAnswer, readBytesBy, readBytes}
+use Rattle.frame_bytes.specs.Claims.{PacketBack, RoundTrips, RefusalsChangeNothing}
 
 flag-small : (b : Bool) → leb (flag b) 1 ≡ true
 flag-small true = refl
@@ -43,54 +45,57 @@ packet-back (ConfirmationPacket d) = record { ten = refl; kind = refl; flags = r
 
 -- ---- refused writing
 
-by-verdict : (v : Verdict) (len : ℕ) (frame out : List ℕ) → writtenCode (writtenBy v len) % 256 ≢ 0
-    → (outputBy v frame out ≡ out) × (writtenCode (writtenBy v len) / 256 ≡ 0)
+by-verdict : (v : Verdict) (len : ℕ) (frame out : List ℕ) → writtenAnswer (writtenBy v len) % 256 ≢ 0
+    → (outputBy v frame out ≡ out) × (writtenAnswer (writtenBy v len) / 256 ≡ 0)
 by-verdict Done len frame out h = absurd (h (omega arith))
 by-verdict (Refused why) len frame out h = (refl, omega (arith, number-alone why))
 
 module _ (form : ℕ) (values user out : List ℕ) where
   by-flags : (k : Kind) (b : Bool)
-      → cond b (writtenCode (writeOf (formAt form) (packetOf k values) (length user) (length out))) (numberOf OutOfRange) % 256 ≢ 0
+      → cond b (writtenAnswer (writeOf (formAt form) (packetOf k values) (length user) (length out))) (numberOf OutOfRange) % 256 ≢ 0
       → (cond b (writeOutput (formAt form) (packetOf k values) user out) out ≡ out)
-      × (cond b (writtenCode (writeOf (formAt form) (packetOf k values) (length user) (length out))) (numberOf OutOfRange) / 256 ≡ 0)
+      × (cond b (writtenAnswer (writeOf (formAt form) (packetOf k values) (length user) (length out))) (numberOf OutOfRange) / 256 ≡ 0)
   unfolding writeOf writeOutput
   by-flags k true h =
       by-verdict (frameVerdict (formAt form) (packetOf k values) (length user) (length out))
       (frameLength (segOf (formAt form)) (lengthOf (packetOf k values) (length user))) (frameOf (formAt form) (packetOf k values) user) out h
   by-flags k false h = (refl, refl)
 
-  by-kind : (found : Found) → writeCodeBy found form values (length user) (length out) % 256 ≢ 0
-      → (writeBytesBy found form values user out ≡ out) × (writeCodeBy found form values (length user) (length out) / 256 ≡ 0)
+  by-kind : (found : Found) → writeAnswerBy found form values (length user) (length out) % 256 ≢ 0
+      → (writeBytesBy found form values user out ≡ out) × (writeAnswerBy found form values (length user) (length out) / 256 ≡ 0)
   by-kind (Known k) h = by-flags k (flagsFit k values) h
   by-kind Unknown h = (refl, refl)
 
 by-ten : (form : ℕ) (bytes user out : List ℕ) (b : Bool)
-    → cond b (writeCodeBy (kindAt (getD bytes 0 0)) form (drop 1 bytes) (length user) (length out)) (numberOf NotInOrder) % 256 ≢ 0
+    → cond b (writeAnswerBy (kindAt (getD bytes 0 0)) form (drop 1 bytes) (length user) (length out)) (numberOf NotInOrder) % 256 ≢ 0
     → (cond b (writeBytesBy (kindAt (getD bytes 0 0)) form (drop 1 bytes) user out) out ≡ out)
-    × (cond b (writeCodeBy (kindAt (getD bytes 0 0)) form (drop 1 bytes) (length user) (length out)) (numberOf NotInOrder) / 256 ≡ 0)
+    × (cond b (writeAnswerBy (kindAt (getD bytes 0 0)) form (drop 1 bytes) (length user) (length out)) (numberOf NotInOrder) / 256 ≡ 0)
 by-ten form bytes user out true h = by-kind form (drop 1 bytes) user out (kindAt (getD bytes 0 0)) h
 by-ten form bytes user out false h = (refl, refl)
 
-write-refused : (form : ℕ) (bytes user out : List ℕ) → writeCode form bytes (length user) (length out) % 256 ≢ 0
-    → (writeBytes form bytes user out ≡ out) × (writeCode form bytes (length user) (length out) / 256 ≡ 0)
-unfolding writeCode writeBytes
+write-refused : (form : ℕ) (bytes user out : List ℕ) → writeAnswer form bytes (length user) (length out) % 256 ≢ 0
+    → (writeBytes form bytes user out ≡ out) × (writeAnswer form bytes (length user) (length out) / 256 ≡ 0)
+unfolding writeAnswer writeBytes
 write-refused form bytes user out h = by-ten form bytes user out (eqb (length bytes) 10) h
 
 -- ---- refused reading
 
-by-read : (read : Read) (bytes : List ℕ) → readCodeBy read % 256 ≢ 0 → (readBytesBy read bytes ≡ bytes) × (readCodeBy read / 256 ≡ 0)
+by-read : (read : Read) (bytes : List ℕ) → readAnswerBy read % 256 ≢ 0 → (readBytesBy read bytes ≡ bytes) × (readAnswerBy read / 256 ≡ 0)
 by-read (PacketRead p user) bytes h = absurd (h (omega arith))
 by-read (NotRead why) bytes h = (refl, number-alone why)
 
-by-room : (read : Read) (bytes : List ℕ) (b : Bool) → cond b (readCodeBy read) (numberOf NotInOrder) % 256 ≢ 0
-    → (cond b (readBytesBy read bytes) bytes ≡ bytes) × (cond b (readCodeBy read) (numberOf NotInOrder) / 256 ≡ 0)
+by-room : (read : Read) (bytes : List ℕ) (b : Bool) → cond b (readAnswerBy read) (numberOf NotInOrder) % 256 ≢ 0
+    → (cond b (readBytesBy read bytes) bytes ≡ bytes) × (cond b (readAnswerBy read) (numberOf NotInOrder) / 256 ≡ 0)
 by-room read bytes true h = by-read read bytes h
 by-room read bytes false h = (refl, refl)
 
-read-refused : (form : ℕ) (frame bytes : List ℕ) → readCode form frame (length bytes) % 256 ≢ 0
-    → (readBytes form frame bytes ≡ bytes) × (readCode form frame (length bytes) / 256 ≡ 0)
-unfolding readCode readBytes
+read-refused : (form : ℕ) (frame bytes : List ℕ) → readAnswer form frame (length bytes) % 256 ≢ 0
+    → (readBytes form frame bytes ≡ bytes) × (readAnswer form frame (length bytes) / 256 ≡ 0)
+unfolding readAnswer readBytes
 read-refused form frame bytes h = by-room (readOf (formAt form) frame) bytes (eqb (length bytes) 10) h
 
-pub frame-bytes-claim : FrameBytesClaim
-frame-bytes-claim = record { packets = packet-back; write-refused = write-refused; read-refused = read-refused }
+pub round-trips : RoundTrips
+round-trips = packet-back
+
+pub refusals-change-nothing : RefusalsChangeNothing
+refusals-change-nothing = record { write = write-refused; read = read-refused }

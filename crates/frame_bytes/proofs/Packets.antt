@@ -1,13 +1,9 @@
 -- The kind that a number names, case by case, and the bytes of a packet.
 -- Assumes nothing.
-use mathlib.Core.Path.{_≡_, refl, _∙_}
-use mathlib.Core.List.{List}
+use mathlib.Core.Path.{_≡_, refl}
 use Prim.Native.Nat.{ℕ}
-use native.Mathlib.Omega.{arith}
 use lib.ListN.{length}
-use lib.Seq.{paste, take-all}
 use borrow.Author.Tests.{eq-eqb, ne-eqb}
-use Rattle.codec.proofs.Writing.{paste-all}
 use Rattle.frame.specs.declared.Packet.{Packet}
 use Rattle.frame.specs.declared.Packet.the-variants.{Data as DataPacket, ClearRequest as RequestPacket, ClearConfirmation as ConfirmationPacket}
 use Rattle.frame.specs.declared.Kind.the-variants.{Data, ClearRequest, ClearConfirmation}
@@ -37,7 +33,3 @@ unfolding packetBytes
 ten (DataPacket d) = refl
 ten (RequestPacket d) = refl
 ten (ConfirmationPacket d) = refl
-
--- ten bytes copied over ten are those bytes
-pub paste-ten : (old new : List ℕ) → length old ≡ 10 → length new ≡ 10 → paste old 0 new 10 ≡ new
-paste-ten old new o n = paste-all old new 10 o ∙ take-all 10 new (omega arith)

@@ -1,4 +1,4 @@
--- A frame is small, so that what an answer tells of it fits one number.
+-- Frames are small: the lengths in an answer fit one number.
 -- Assumes nothing.
 use mathlib.Core.Path.{_≡_, refl}
 use mathlib.Core.List.{List}
@@ -6,19 +6,19 @@ use Prim.Native.Nat.{ℕ, _+_, _≤_}
 use native.Mathlib.Omega.{arith}
 use Rattle.refusal.specs.declared.Verdict.{Verdict}
 use Rattle.refusal.specs.declared.Verdict.the-variants.{Done, Refused}
-use Rattle.form.specs.declared.Form.{Form}
-use Rattle.form.specs.Forms.{segOf}
-use Rattle.form.specs.Segments.{frameLength}
-use Rattle.form.proofs.Forms.{segment-some, segment-few, most-range}
-use Rattle.form.proofs.Segments.{padding-below}
-use Rattle.codec.specs.declared.Written.the-variants.{Done as WrittenDone}
-use Rattle.codec.specs.Writing.{writtenBy}
+use Rattle.frame_form.specs.declared.Form.{Form}
+use Rattle.frame_form.specs.Forms.{segOf}
+use Rattle.frame_form.specs.Segments.{frameLength}
+use Rattle.frame_form.proofs.Forms.{segment-some, segment-few, most-range}
+use Rattle.frame_form.proofs.Segments.{padding-below}
+use Rattle.frame_codec.specs.declared.Written.the-variants.{Done as WrittenDone}
+use Rattle.frame_codec.specs.Writing.{writtenBy}
 use Rattle.frame.specs.declared.Packet.{Packet}
 use Rattle.frame.specs.declared.UserData.{UserData}
 use Rattle.frame.specs.declared.Read.the-variants.{Packet as PacketRead}
 use Rattle.frame.specs.Writing.{lengthOf, frameVerdict, writeOf}
 use Rattle.frame.specs.Reading.{readOf}
-use Rattle.readback.proofs.ReadBack.{accepted, reads-frame}
+use Rattle.frame.proofs.Frames.{accepted, reads-frame}
 
 by-done : (v : Verdict) (len n : ℕ) → writtenBy v len ≡ WrittenDone n → (v ≡ Done) × (len ≡ n)
 by-done Done len n e = (refl, cc)

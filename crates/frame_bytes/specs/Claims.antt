@@ -1,4 +1,5 @@
--- What is claimed of packets in bytes: they come back as they were, and a refusal writes nothing. proofs/Claims.antt proves it.
+-- Claims about packets in bytes: a packet stored in its ten bytes comes back the same, and a
+-- refusal writes nothing (document 01, "Refusal numbers"). proofs/Claims.antt proves them.
 -- Assumes nothing.
 use mathlib.Core.Path.{_≡_}
 use mathlib.Core.Bool.{true}
@@ -9,19 +10,23 @@ use lib.ListN.{length, getD, drop}
 use Rattle.frame.specs.declared.Packet.{Packet}
 use Rattle.frame.specs.declared.Found.the-variants.{Known}
 use Rattle.frame.specs.Packets.{kindOf, packetOf}
-use Rattle.frame_bytes.specs.Stored.{packetBytes, kindAt, flagsFit, writeCode, writeBytes, readCode, readBytes}
+use Rattle.frame_bytes.specs.Stored.{packetBytes, kindAt, flagsFit, writeAnswer, writeBytes, readAnswer, readBytes}
 
--- the ten bytes of a packet name its kind, its flags fit, and they give the packet again
+-- the ten bytes of the packet p are ten, name its kind, have flags of 0 or 1, and give p again
 pub record PacketBack (p : Packet) : Type 0 where
   pub ten : length (packetBytes p) ≡ 10
   pub kind : kindAt (getD (packetBytes p) 0 0) ≡ Known (kindOf p)
   pub flags : flagsFit (kindOf p) (drop 1 (packetBytes p)) ≡ true
   pub back : packetOf (kindOf p) (drop 1 (packetBytes p)) ≡ p
 
-pub record FrameBytesClaim : Type 0 where
-  pub packets : (p : Packet) → PacketBack p
-  -- a refused call leaves every lent byte as it was, and answers nothing but its number
-  pub write-refused : (form : ℕ) (bytes user out : List ℕ) → writeCode form bytes (length user) (length out) % 256 ≢ 0
-      → (writeBytes form bytes user out ≡ out) × (writeCode form bytes (length user) (length out) / 256 ≡ 0)
-  pub read-refused : (form : ℕ) (frame bytes : List ℕ) → readCode form frame (length bytes) % 256 ≢ 0
-      → (readBytes form frame bytes ≡ bytes) × (readCode form frame (length bytes) / 256 ≡ 0)
+-- this holds for every packet
+abbrev pub RoundTrips : Type 0
+RoundTrips = (p : Packet) → PacketBack p
+
+-- "A refusal returns its number, counts of 0 .. no lent byte changes": where the lowest byte of an
+-- answer is not 0, every lent byte is as it was, and the rest of the answer is 0
+pub record RefusalsChangeNothing : Type 0 where
+  pub write : (form : ℕ) (bytes user out : List ℕ) → writeAnswer form bytes (length user) (length out) % 256 ≢ 0
+      → (writeBytes form bytes user out ≡ out) × (writeAnswer form bytes (length user) (length out) / 256 ≡ 0)
+  pub read : (form : ℕ) (frame bytes : List ℕ) → readAnswer form frame (length bytes) % 256 ≢ 0
+      → (readBytes form frame bytes ≡ bytes) × (readAnswer form frame (length bytes) / 256 ≡ 0)

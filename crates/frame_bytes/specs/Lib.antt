@@ -1,3 +1,3 @@
--- What the contracts of `frame_bytes` cite, and what is claimed of packets in bytes.
+-- The definitions that the contracts of `frame_bytes` use, and the claims about packets in bytes.
 pub mod Stored
 pub mod Claims

@@ -1,13 +1,12 @@
-// Frames for callers that are not written in Rattle: a form is a number, a packet is ten lent bytes, and an answer is one number, the refusal number in
-// its low byte and its values above.
+// Frames for callers that are not written in Rattle, which reach them through `capi`. A form is a
+// number (`Form::from_number`), a packet is ten lent bytes (specs/Stored.antt), and an answer is
+// one number: the refusal number in its lowest byte, the values above it.
 ghost use mathlib.Core.Path.{_≡_};
 ghost use mathlib.Core.List.{_∷_};
 ghost use Prim.Native.Nat.{_≤_};
 ghost use lib.ListN.{length, getD, drop};
-ghost use Rattle.frame_bytes.specs.Stored.{packetBytes, kindAt, flagsFit, writtenCode, writeCodeBy, writeCode, writeBytesBy, writeBytes, readCode, readBytes};
-ghost use Rattle.frame.specs.Packets.{packetOf, flag as bitOf};
-use codec::Written;
-use form::Form;
+ghost use Rattle.frame_bytes.specs.Stored.{packetBytes, kindAt, flagsFit, writtenAnswer, writeAnswerBy, writeAnswer, writeBytesBy, writeBytes, readAnswer, readBytes};
+ghost use Rattle.frame.specs.Packets.{packetOf};
 use frame::ClearConfirmation;
 use frame::ClearRequest;
 use frame::Data;
@@ -15,12 +14,14 @@ use frame::Found;
 use frame::Kind;
 use frame::Packet;
 use frame::Read;
+use frame_codec::Written;
+use frame_form::Form;
 use sequence::LinkNumber;
 use sequence::PacketNumber;
 
 // ---- a packet from its bytes
 
-// The kind that a number names.
+// The kind with the number `n`: 0 DATA, 1 CLEAR REQUEST, 2 CLEAR CONFIRMATION.
 fn kind_at(n: u8) -> Found
     ensures { λ r. ⌜ r ≡ kindAt n ⌝ }
 {
@@ -35,7 +36,7 @@ fn kind_at(n: u8) -> Found
     }
 }
 
-// Whether the flags of a packet are 0 or 1.
+// Whether every flag among the nine values of a packet is 0 or 1.
 fn flags_fit(kind: Kind, values: &[u8]) -> bool
     requires { ⌜ length (now values) ≡ 9 ⌝ }
     ensures { λ r. ⌜ r ≡ flagsFit kind (now (values .entry)) ⌝ }
@@ -47,7 +48,7 @@ fn flags_fit(kind: Kind, values: &[u8]) -> bool
     }
 }
 
-// The packet of a kind that has these values.
+// The packet of kind `kind` with these values; those after its last field are not read.
 fn packet_of(kind: Kind, values: &[u8]) -> Packet
     requires { ⌜ length (now values) ≡ 9 ⌝ }
     ensures { λ r. ⌜ r ≡ packetOf kind (now (values .entry)) ⌝ }
@@ -83,10 +84,11 @@ fn packet_of(kind: Kind, values: &[u8]) -> Packet
 
 // ---- writing
 
-// Writes a packet of a known kind as one frame to the front of lent output.
+// Writes a packet of kind `kind`, given by its nine values, as one frame to the front of `out`. A
+// flag over 1 is refusal 1.
 fn write_known(form: u8, kind: Kind, values: &[u8], user: &[u8], out: &mut [u8]) -> u64
     requires { ⌜ length (now values) ≡ 9 ⌝ }
-    ensures { λ r. ⌜ r ≡ writeCodeBy (Found.Known kind) form (now (values .entry)) (length (now (user .entry))) (length (now (out .entry))) ⌝ }
+    ensures { λ r. ⌜ r ≡ writeAnswerBy (Found.Known kind) form (now (values .entry)) (length (now (user .entry))) (length (now (out .entry))) ⌝ }
     ensures written { λ _. ⌜ now (out .exit) ≡ writeBytesBy (Found.Known kind) form (now (values .entry)) (now (user .entry)) (now (out .entry)) ⌝ }
 {
     if flags_fit(kind, values) {
@@ -105,10 +107,11 @@ fn write_known(form: u8, kind: Kind, values: &[u8], user: &[u8], out: &mut [u8])
     }
 }
 
-// Writes a packet and its user data as one frame to the front of lent output. The answer has the refusal number in its low byte, and the frame's length
-// above it.
+// Writes a packet and its user data as one frame to the front of `out`. The answer is the refusal
+// number plus 256 times the frame's length. A `packet` that is not ten bytes long is refusal 14, an
+// unknown kind or a flag over 1 is refusal 1; then `frame::write_frame` decides.
 pub fn write(form: u8, packet: &[u8], user: &[u8], out: &mut [u8]) -> u64
-    ensures { λ r. ⌜ r ≡ writeCode form (now (packet .entry)) (length (now (user .entry))) (length (now (out .entry))) ⌝ }
+    ensures { λ r. ⌜ r ≡ writeAnswer form (now (packet .entry)) (length (now (user .entry))) (length (now (out .entry))) ⌝ }
     ensures written { λ _. ⌜ now (out .exit) ≡ writeBytes form (now (packet .entry)) (now (user .entry)) (now (out .entry)) ⌝ }
 {
     if packet.len() != 10 {
@@ -123,32 +126,32 @@ pub fn write(form: u8, packet: &[u8], user: &[u8], out: &mut [u8]) -> u64
 
 // ---- reading
 
-// A flag's byte.
-fn flag(set: bool) -> u8
-    ensures { λ r. ⌜ r ≡ bitOf set ⌝ }
-{
-    if set { 1 } else { 0 }
-}
-
-// Writes a packet into its ten bytes.
+// Writes a packet into ten bytes.
 fn put_packet(bytes: &mut [u8], packet: Packet)
     requires { ⌜ length (now bytes) ≡ 10 ⌝ }
     ensures { λ _. ⌜ now (bytes .exit) ≡ packetBytes packet ⌝ }
 {
     let all = bytes_of(packet);
-    let mut i = 0;
-    while i < 10 {
-        bytes[i] = all[i];
-        i = i + 1;
-    }
+    lists::copy_in(bytes, &all);
 }
 
-// The ten bytes of a packet.
+// A packet as ten bytes: its kind, its values, and 0 up to ten.
 fn bytes_of(packet: Packet) -> [u8; 10]
     ensures { λ r. ⌜ r ≡ packetBytes packet ⌝ }
 {
     match packet {
-        Packet::Data(d) => [0, flag(d.m), d.sn.0, d.ps.0, d.pr.0, d.ch, 0, 0, 0, 0],
+        Packet::Data(d) => [
+            0,
+            little::flag(d.m),
+            d.sn.0,
+            d.ps.0,
+            d.pr.0,
+            d.ch,
+            0,
+            0,
+            0,
+            0,
+        ],
         Packet::ClearRequest(d) => [
             1,
             d.tc,
@@ -158,17 +161,18 @@ fn bytes_of(packet: Packet) -> [u8; 10]
             d.ag,
             d.cc,
             d.dc,
-            flag(d.s),
-            flag(d.f),
+            little::flag(d.s),
+            little::flag(d.f),
         ],
         Packet::ClearConfirmation(d) => [2, d.tc, d.sn.0, d.ch, d.am, d.ag, 0, 0, 0, 0],
     }
 }
 
-// Reads a frame, and writes its packet into ten lent bytes. The answer has the refusal number in its low byte, above it where the user data starts in the
-// frame, and above that its length.
+// Reads a frame, and writes its packet into the ten bytes of `packet`. The answer is the refusal
+// number, plus 256 times the index where the user data starts in the frame, plus 65,536 times its
+// length. A `packet` that is not ten bytes long is refusal 14; then `frame::read_frame` decides.
 pub fn read(form: u8, frame: &[u8], packet: &mut [u8]) -> u64
-    ensures { λ r. ⌜ r ≡ readCode form (now (frame .entry)) (length (now (packet .entry))) ⌝ }
+    ensures { λ r. ⌜ r ≡ readAnswer form (now (frame .entry)) (length (now (packet .entry))) ⌝ }
     ensures written { λ _. ⌜ now (packet .exit) ≡ readBytes form (now (frame .entry)) (now (packet .entry)) ⌝ }
 {
     if packet.len() != 10 {

@@ -1,4 +1,4 @@
--- Frames in a buffer: cut out by their lengths they are the frames again.
+-- Frames in a buffer: cut out by their lengths, they are the same frames again.
 -- Assumes nothing.
 use mathlib.Core.Path.{_≡_, refl, sym, ap, ap₂, _∙_}
 use mathlib.Core.List.{List, [], _∷_, _++_, append-assoc}
@@ -26,7 +26,7 @@ pub count-parts : (ls bytes : List ℕ) → length (partsOf ls bytes) ≡ length
 count-parts [] bytes = refl
 count-parts (l ∷ ls) bytes = ap suc (count-parts ls (drop l bytes))
 
--- where the lengths sum to the bytes, the frames are all of them
+-- if the lengths sum to the number of bytes, the frames' bytes are all the bytes
 pub bytes-back : (ls bytes : List ℕ) → sum ls ≡ length bytes → bytesIn (partsOf ls bytes) ≡ bytes
 bytes-back [] [] e = refl
 bytes-back [] (b ∷ bs) e = absurd (omega arith)

@@ -1,4 +1,4 @@
--- Lists told by their places.
+-- Laws of `listFrom` and `over`: a list is determined by its length and the number at each index.
 -- Assumes nothing.
 use mathlib.Core.Path.{_≡_, refl, sym, ap, _∙_}
 use mathlib.Core.Bool.{Bool, true, false, cond}
@@ -24,22 +24,22 @@ getD-from k zero f i h = absurd (omega arith)
 getD-from k (suc n) f zero h = ap f (omega arith)
 getD-from k (suc n) f (suc i) h = getD-from (suc k) n f i (omega arith) ∙ ap f (omega arith)
 
--- a list of n places is told by what stands at each
+-- a list of length n with f i at each index i is `listFrom 0 n f`
 pub is-from : (n : ℕ) (l : List ℕ) (f : ℕ → ℕ) → length l ≡ n → ((i : ℕ) → i < n → getD l i 0 ≡ f i) → l ≡ listFrom 0 n f
 is-from n l f e g =
     ext-getD 0 l (listFrom 0 n f) (e ∙ sym (length-from 0 n f)) (λ i h.
     let b : i < n = omega arith in
     g i b ∙ ap f (omega arith) ∙ sym (getD-from 0 n f i b))
 
--- told from 0 up, the place is the argument
+-- the number at index i of `listFrom 0 n f` is f i
 pub from-at : (n : ℕ) (f : ℕ → ℕ) (i : ℕ) → i < n → getD (listFrom 0 n f) i 0 ≡ f i
 from-at n f i h = getD-from 0 n f i h ∙ ap f (omega arith)
 
--- only the places below n matter
+-- functions that agree below n give the same list
 pub from-same : (n : ℕ) (f g : ℕ → ℕ) → ((i : ℕ) → i < n → f i ≡ g i) → listFrom 0 n f ≡ listFrom 0 n g
 from-same n f g e = is-from n (listFrom 0 n f) g (length-from 0 n f) (λ i h. from-at n f i h ∙ e i h)
 
--- one place written
+-- one index written
 pub set-from : (n : ℕ) (f : ℕ → ℕ) (x v : ℕ) → set (listFrom 0 n f) x v ≡ listFrom 0 n (λ i. cond (eqb i x) v (f i))
 set-from n f x v =
     is-from n (set (listFrom 0 n f) x v) (λ i. cond (eqb i x) v (f i)) (length-set (listFrom 0 n f) x v ∙ length-from 0 n f) (λ i h. go i h (eqb i x) refl)
@@ -50,7 +50,7 @@ set-from n f x v =
         ap (λ (k : ℕ). getD (set (listFrom 0 n f) x v) k 0) q ∙ getD-set-same (listFrom 0 n f) x v 0 (omega (arith, length-from 0 n f))
     go i h false e = getD-set-other (listFrom 0 n f) x i v 0 (eqb-false i x e) ∙ from-at n f i h
 
--- ---- a list of n zeros that is filled from the front: a places are written
+-- ---- a list of n zeros that is filled from the front: its first a numbers are written
 
 abbrev pub filled : ℕ → (ℕ → ℕ) → ℕ → List ℕ
 filled n f a = listFrom 0 n (λ i. cond (ltb i a) (f i) 0)

@@ -1,3 +1,3 @@
--- What the definitions of several crates share.
+-- Definitions of lists that several crates share.
 pub mod Lists
 pub mod Frames

@@ -1,4 +1,5 @@
--- The law of numbers in bytes: a byte is the remainder by 256, and what stands behind it is the quotient.
+-- The law of numbers in bytes: the first byte is the remainder by 256, and the bytes after it
+-- encode the quotient.
 -- Assumes nothing.
 use mathlib.Core.Path.{_≡_, refl, sym, ap, ap₂, _∙_, subst}
 use mathlib.Core.List.{List, [], _∷_, _++_}

@@ -1,4 +1,4 @@
--- Numbers in bytes by their places, and what is left when they are written over lent memory.
+-- Numbers in bytes by their index, and lent memory after they were written to it.
 -- Assumes nothing.
 use mathlib.Core.Path.{_≡_, refl, sym, ap, ap₂, _∙_}
 use mathlib.Core.List.{List, [], _∷_, _++_, append-assoc, append-nil}
@@ -11,7 +11,7 @@ use lib.Seq.{take-all, take-append-add, drop-append-add, take-suc, take-add, dro
 use Rattle.little.specs.Little.{littleOf, littleBytes, littleList, listBytes}
 use Rattle.little.proofs.Little.{length-bytes}
 
--- ---- a list of numbers by its places
+-- ---- a list of numbers by index
 
 pub list-at : (k n : ℕ) (bs : List ℕ) (i : ℕ) → i < n → getD (littleList k n bs) i 0 ≡ littleOf (take k (drop (i * k) bs))
 unfolding littleList
@@ -23,7 +23,7 @@ list-at k (suc n) bs (suc i) h =
     let e : k + i * k ≡ suc i * k = omega arith in
     list-at k n (drop k bs) i (omega arith) ∙ ap (λ (l : List ℕ). littleOf (take k l)) (drop-drop (i * k) k bs ∙ ap (λ (j : ℕ). drop j bs) e)
 
--- one byte, and the number that those after it write
+-- a number is its first byte and 256 times the number that the other bytes encode
 pub byte-first : (k n : ℕ) (bs : List ℕ) → n < length bs → littleOf (take (suc k) (drop n bs)) ≡ getD bs n 0 + 256 * littleOf (take k (drop (n + 1) bs))
 unfolding littleOf
 byte-first k n bs h = rw (add-one, drop-cons bs n 0)
@@ -47,7 +47,7 @@ list-append k [] ys = refl
 list-append k (x ∷ xs) ys =
     ap (λ (l : List ℕ). littleBytes k x ++ l) (list-append k xs ys) ∙ sym (append-assoc (littleBytes k x) (listBytes k xs) (listBytes k ys))
 
--- one number more
+-- the bytes of i + 1 numbers: those of i numbers, then those of number i
 pub list-next : (k i : ℕ) (xs : List ℕ) → i < length xs → listBytes k (take (i + 1) xs) ≡ listBytes k (take i xs) ++ littleBytes k (getD xs i 0)
 unfolding listBytes
 list-next k i xs h =
@@ -56,7 +56,7 @@ list-next k i xs h =
     ∙ list-append k (take i xs) (getD xs i 0 ∷ [])
     ∙ ap (λ (l : List ℕ). listBytes k (take i xs) ++ l) (append-nil (littleBytes k (getD xs i 0)))
 
--- one byte more over the front of lent memory
+-- the front p of lent memory is written; one more byte is written after it
 pub put-next : (p out : List ℕ) (n b : ℕ) → length p ≡ n → n < length out → set (p ++ drop n out) n b ≡ (p ++ (b ∷ [])) ++ drop (n + 1) out
 put-next p out n b e h =
     ap (λ (l : List ℕ). set (p ++ l) n b) (drop-cons out n 0 h)
@@ -66,7 +66,7 @@ put-next p out n b e h =
 
 -- ---- memory written part by part
 
--- the m elements after the n that were pasted
+-- pasting n elements and then the next m is pasting n + m
 pub paste-more : (d s t : List ℕ) (at n m : ℕ) → at ≤ length d → n ≤ length s → take m t ≡ take m (drop n s)
     → paste (paste d at s n) (at + n) t m ≡ paste d at s (n + m)
 paste-more d s t at n m hd hs e =
@@ -77,7 +77,8 @@ paste-more d s t at n m hd hs e =
     ∙ ap (λ (x : List ℕ). x ++ drop (at + n + m) d) (append-assoc (take at d) (take n s) (take m (drop n s)) ∙ ap (λ (x : List ℕ). take at d ++ x) (sym (take-add n m s)))
     ∙ ap (λ (j : ℕ). take at d ++ take (n + m) s ++ drop j d) sum
 
--- ---- the loop that writes n in k bytes from index at: i bytes are written, and `rest` is the number of those to come
+-- ---- the loop that writes n in k bytes starting at index `at`: i bytes are written, and `rest` is
+-- the number that the others encode
 
 pub record Putting (out₀ : List ℕ) (at k n : ℕ) (out : List ℕ) (i rest : ℕ) : Type 0 where
   pub left : ℕ
@@ -116,9 +117,9 @@ module _ (out₀ : List ℕ) (at k n : ℕ) (room : at + k ≤ length out₀) wh
                 ∙ ap (paste out₀ at (littleBytes k n)) (sym (add-one i));
           }
 
--- ---- one number of a list written anew
+-- ---- one number of a list is overwritten
 
--- what is pasted behind p leaves p
+-- pasting behind p leaves p as it is
 pub paste-behind : (p l s : List ℕ) (j n : ℕ) → paste (p ++ l) (length p + j) s n ≡ p ++ paste l j s n
 paste-behind p l s j n =
     let e : length p + j + n ≡ length p + (j + n) = omega arith in

@@ -1,4 +1,4 @@
--- Bytes merged to a word by shifts: each byte stands above those that were merged before it.
+-- Bytes merged into a word by shifts: each byte is put above those that were merged before it.
 -- Assumes nothing.
 use mathlib.Core.Path.{_≡_, refl, sym, ap, _∙_, subst}
 use mathlib.Core.List.{List, [], _∷_, _++_, append-assoc, append-nil}
@@ -18,7 +18,7 @@ pub below-cons : (m x : ℕ) (xs : List ℕ) → x < m → Below m xs → Below 
 below-cons m x xs h f zero l = h
 below-cons m x xs h f (suc i) l = f i (omega arith)
 
--- the same of a list that is written out: a fact for each element
+-- `Below` for a list that is written out: one fact for each element
 abbrev pub Each : ℕ → List ℕ → Type 0
 Each m [] = Unit {0}
 Each m (x ∷ xs) = (x < m) × Each m xs
@@ -70,7 +70,7 @@ merged-is w bs (x ∷ xs) acc k hb hx e q l =
     merged-is w (bs ++ (x ∷ [])) xs (bitOr acc (x * 2 ^ k % 2 ^ w)) (k + 8) (below-append 256 bs (x ∷ []) hb (below-cons 256 x [] low (below-none 256))) (λ i h. hx (suc i) (omega arith)) more (omega arith) (omega arith)
     ∙ ap littleOf (append-assoc bs (x ∷ []) xs)
 
--- bytes merged to a word are the number that they write
+-- bytes merged into a word are the number that they encode
 pub merged-bytes : (w x : ℕ) (xs : List ℕ) → Each 256 (x ∷ xs) → 8 * suc (length xs) ≤ w → merged w x 8 xs ≡ littleOf (x ∷ xs)
 merged-bytes w x xs h l =
     let e : x ≡ littleOf (x ∷ []) = unfold littleOf in omega arith in

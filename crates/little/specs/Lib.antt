@@ -1,3 +1,3 @@
--- Numbers in bytes, the lowest byte first, and their law.
+-- Numbers in bytes, lowest byte first, and the law of writing and reading them.
 pub mod Little
 pub mod Law

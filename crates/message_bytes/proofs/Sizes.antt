@@ -1,4 +1,4 @@
--- A message is small, so that what an answer tells of it fits one number.
+-- A message is so small that its counts fit one 64-bit number.
 -- Assumes nothing.
 use mathlib.Core.Path.{_≡_, refl}
 use mathlib.Core.Bool.{true}
@@ -10,20 +10,20 @@ use lib.ListN.{length}
 use Rattle.refusal.specs.declared.Verdict.{Verdict}
 use Rattle.refusal.specs.declared.Verdict.the-variants.{Done, Refused}
 use Rattle.lists.specs.Frames.{bytesIn, partsOf}
-use Rattle.form.specs.declared.Form.{Form}
-use Rattle.form.specs.Forms.{segOf, formGood}
-use Rattle.form.specs.Segments.{frameLength}
-use Rattle.form.proofs.Forms.{segment-some, segment-few}
-use Rattle.form.proofs.Segments.{padding-below}
-use Rattle.cutting.specs.declared.Start.{Start}
-use Rattle.cutting.specs.declared.Cut.the-variants.{Frames}
-use Rattle.cutting.specs.Cutting.{shareOf, fullFrames, framesOf, cutVerdict, cutBy, cutOf}
-use Rattle.cutting.specs.Parts.{roomFor}
-use Rattle.cutting.proofs.Passed.{passed}
-use Rattle.cutting.proofs.Sizes.{share-range, full-least, room-product, message-room, message-count}
-use Rattle.joining.specs.declared.Joined.the-variants.{Bytes}
-use Rattle.joining.specs.Joining.{messageIn, joinVerdict, joinBy, joinOf}
-use Rattle.joining.proofs.Answers.{join-done}
+use Rattle.frame_form.specs.declared.Form.{Form}
+use Rattle.frame_form.specs.Forms.{segOf, formValid}
+use Rattle.frame_form.specs.Segments.{frameLength}
+use Rattle.frame_form.proofs.Forms.{segment-some, segment-few}
+use Rattle.frame_form.proofs.Segments.{padding-below}
+use Rattle.message.specs.declared.cutting.Start.{Start}
+use Rattle.message.specs.declared.cutting.Cut.the-variants.{Frames}
+use Rattle.message.specs.Cutting.{shareOf, fullFrames, framesOf, cutVerdict, cutBy, cutOf}
+use Rattle.message.specs.CuttingParts.{roomFor}
+use Rattle.message.proofs.Passed.{passed}
+use Rattle.message.proofs.Sizes.{share-range, full-least, room-product, message-room, message-count}
+use Rattle.message.specs.declared.joining.Joined.the-variants.{Bytes}
+use Rattle.message.specs.Joining.{messageIn, joinVerdict, joinBy, joinOf}
+use Rattle.message.proofs.Answers.{join-done}
 
 -- ---- cutting
 
@@ -32,8 +32,9 @@ by-frames : (v : Verdict) (frames : List (List ℕ)) (count bytes : ℕ) → cut
 by-frames Done frames count bytes e = (refl, cc, cc)
 by-frames (Refused why) frames count bytes e = let z : _≡_ {A = ℕ} 0 1 = cc in absurd (omega arith)
 
--- no frame has more than 175 bytes, and there are at most as many full ones as the message has bytes
-room-few : (form : Form) (n : ℕ) → formGood form ≡ true → n ≤ 4096 → roomFor form (fullFrames (shareOf form) n) n ≤ 800000
+-- no frame has more than 175 bytes, and there are at most as many full ones as the message has
+-- bytes
+room-few : (form : Form) (n : ℕ) → formValid form ≡ true → n ≤ 4096 → roomFor form (fullFrames (shareOf form) n) n ≤ 800000
 room-few form n good small =
     let c = shareOf form in
     let k = fullFrames c n in

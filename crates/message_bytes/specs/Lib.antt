@@ -1,3 +1,4 @@
--- What the contracts of `message_bytes` cite, and what is claimed of refusals.
+-- The definitions that the contracts of `message_bytes` cite, and the claim about the parts of an
+-- answer.
 pub mod Answers
 pub mod Claims

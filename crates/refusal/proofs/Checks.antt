@@ -1,4 +1,4 @@
--- What is known where a list of checks passed.
+-- What follows if a list of checks has the verdict `Done`.
 -- Assumes nothing.
 use mathlib.Core.Path.{_≡_, refl}
 use mathlib.Core.Bool.{Bool, true, false, _&&_}
@@ -19,7 +19,7 @@ pub both-true : (a b : Bool) → (a && b) ≡ true → (a ≡ true) × (b ≡ tr
 both-true true b e = (refl, e)
 both-true false b e = let z : _≡_ {A = ℕ} 0 1 = cc in absurd (omega arith)
 
--- both lists of checks passed
+-- both verdicts are `Done`
 pub then-done : (v w : Verdict) → andThen v w ≡ Done → (v ≡ Done) × (w ≡ Done)
 then-done Done w e = (refl, e)
 then-done (Refused why) w e = let z : _≡_ {A = ℕ} 0 1 = cc in absurd (omega arith)

@@ -1,4 +1,5 @@
--- The refusal numbers are few, a line a case: they fit the low byte of an answer that is one number.
+-- Every refusal number is from 1 to 17, so that it fits the low byte of an answer that is one
+-- number.
 -- Assumes nothing.
 use mathlib.Core.Path.{_≡_}
 use Prim.Native.Nat.{_/_, _≤_}
@@ -26,6 +27,6 @@ number-range AllFailed = omega arith
 number-range NeverSent = omega arith
 number-range RunBroken = omega arith
 
--- nothing stands above a refusal's number
+-- a refusal's number fits one byte
 pub number-alone : (why : Refusal) → numberOf why / 256 ≡ 0
 number-alone why = omega (arith, number-range why .1)

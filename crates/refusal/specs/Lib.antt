@@ -1,2 +1,2 @@
--- What the contracts of `refusal` cite.
+-- The definitions that the contracts of `refusal` use.
 pub mod Numbers

@@ -1,4 +1,5 @@
--- The refusal numbers: document 01, "Refusal numbers".
+-- The refusal numbers, and how the definitions list the checks of a call: document 01, "Refusal
+-- numbers".
 -- Assumes nothing.
 use mathlib.Core.Bool.{Bool, true, false}
 use Prim.Native.Nat.{ℕ}
@@ -7,6 +8,7 @@ use Rattle.refusal.specs.declared.Refusal.the-variants.{OutOfRange, Malf
 use Rattle.refusal.specs.declared.Verdict.{Verdict}
 use Rattle.refusal.specs.declared.Verdict.the-variants.{Done, Refused}
 
+-- the number of each refusal in the table
 abbrev pub numberOf : Refusal → ℕ
 numberOf OutOfRange = 1
 numberOf Malformed = 2
@@ -26,18 +28,22 @@ numberOf AllFailed = 15
 numberOf NeverSent = 16
 numberOf RunBroken = 17
 
--- 0 is done
+-- the number of a verdict: 0 is "done", else the refusal's number
 abbrev pub verdictNumber : Verdict → ℕ
 verdictNumber Done = 0
 verdictNumber (Refused why) = numberOf why
 
--- ---- how definitions tell a call's checks: a list of what must hold, each with the refusal given where it doesn't, in their order
+-- ---- the checks of a call, in the order in which it makes them: check test1 why1 (check test2
+-- why2 (.. Done)). The first test that fails gives the
+-- refusal; if all tests hold, the verdict is `Done`.
 
+-- the test must hold, else the call is refused with `why`; `rest` is the verdict of the checks
+-- after it
 abbrev pub check : Bool → Refusal → Verdict → Verdict
 check true why rest = rest
 check false why rest = Refused why
 
--- one list of checks after another
+-- the checks of the first verdict, then those of the second
 abbrev pub andThen : Verdict → Verdict → Verdict
 andThen Done rest = rest
 andThen (Refused why) rest = Refused why

@@ -1,13 +1,15 @@
-// Why a call refuses, and whether it did. The numbers are those of document 01's table; specs/Numbers.antt has them.
+// Refusals and verdicts. Their numbers are those of document 01's table "Refusal numbers";
+// specs/Numbers.antt defines them.
 ghost use mathlib.Core.Path.{_≡_};
 ghost use Rattle.refusal.specs.Numbers.{numberOf, verdictNumber};
 
-// A refusal. The comment of each case is its row of the table.
+// Why a call is refused. The comment of each case is its row in document 01's table.
 pub enum Refusal {
-    // 1: an argument exceeds its field (SN over 63, PS or PR over 15, CH, AM or II over 15, TC over 3, downlink segments not 1 to 16)
+    // 1: an argument exceeds its field (SN over 63, PS or PR over 15, CH, AM or II over 15, TC over
+    // 3, downlink segments not 1 to 16)
     OutOfRange,
-    // 2: a frame is empty or no whole number of segments; lengths don't sum to the data; no frames; the last frame has M = 1; a script line
-    // is malformed
+    // 2: a frame is empty or no whole number of segments; lengths don't sum to the data; no frames;
+    // the last frame has M = 1; a script line is malformed
     Malformed,
     // 3: a fixed field, fill, LV or padding byte is wrong; M = 0 before the last frame
     FormatError,
@@ -27,7 +29,7 @@ pub enum Refusal {
     OutsideWindow,
     // 11: received PS out of sequence
     OutOfSequence,
-    // 12: received PS is the first one and not 0
+    // 12: first received PS not 0: no PS has been accepted yet, and this one is not 0
     FirstNotZero,
     // 13: packet over the form's largest size
     PacketTooLong,
@@ -41,14 +43,15 @@ pub enum Refusal {
     RunBroken,
 }
 
-// Whether a call did what was asked: done, which is 0 in the table, or refused.
+// Whether a call did what was asked: `Done`, which is 0 in the table, or `Refused`, with the
+// reason.
 pub enum Verdict {
     Done,
     Refused(Refusal),
 }
 
 impl Refusal {
-    // The number of the table, for logs and for callers that speak in numbers.
+    // The refusal's number in the table, 1 to 17.
     pub fn number(self) -> u8
         ensures { λ r. ⌜ r ≡ numberOf self ⌝ }
     {
@@ -75,7 +78,7 @@ impl Refusal {
 }
 
 impl Verdict {
-    // 0 for done, else the refusal's number.
+    // The number in the table: 0 for `Done`, else the refusal's number.
     pub fn number(self) -> u8
         ensures { λ r. ⌜ r ≡ verdictNumber self ⌝ }
     {

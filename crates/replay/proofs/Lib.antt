@@ -1,2 +1,2 @@
--- The input run part by part.
+-- The laws of running the input part by part.
 pub mod Parts

@@ -1,4 +1,4 @@
--- The bytes of the input, run in parts one after the other.
+-- Running the bytes of the input in parts, one after the other.
 -- Assumes nothing.
 use mathlib.Core.Path.{_≡_, refl, sym, ap, _∙_}
 use mathlib.Core.List.{List}
@@ -6,9 +6,9 @@ use Prim.Native.Nat.{ℕ, _+_, _-_, _*_, _≤_, _<_}
 use native.Mathlib.Omega.{arith}
 use lib.ListN.{length, take, drop, length-take}
 use lib.Seq.{take-add}
-use Rattle.script.specs.declared.Replay.{Replay}
-use Rattle.script.specs.Feeding.{feedNext}
-use Rattle.script.proofs.Feeding.{next-append}
+use Rattle.replay_script.specs.declared.Replay.{Replay}
+use Rattle.replay_script.specs.Feeding.{feedNext}
+use Rattle.replay_script.proofs.Feeding.{next-append}
 
 pub nothing-run : (r : Replay) (input : List ℕ) → r ≡ feedNext r (take 0 input)
 unfolding feedNext

@@ -1,14 +1,15 @@
-// Replays a script of resequencer events (document 01, "The replay program"): the script comes on standard input, its report goes to standard
-// output. The work is done by the crate `script`; here are only the buffers and the calls of the system.
+// The replay program (document 01, "The replay program"): reads a script of resequencer events from
+// standard input and prints its report to standard output. The work is done by the crate
+// `replay_script`; this crate has the buffers and the system calls.
 ghost use mathlib.Core.Path.{_≡_};
 ghost use Prim.Native.Nat.{_+_, _*_, _≤_, _<_};
 ghost use lib.ListN.{length, take};
-ghost use Rattle.script.specs.Feeding.{feedNext};
+ghost use Rattle.replay_script.specs.Feeding.{feedNext};
 use libc::STDIN_FILENO;
 use libc::STDOUT_FILENO;
-use script::Replay;
+use replay_script::Replay;
 
-// What is kept of the script so far, and how many more reads may be made.
+// The state after a read: what is kept of the script so far, and how many more reads may be made.
 struct Turn {
     kept: Replay,
     reads: u64,
@@ -20,7 +21,8 @@ fn main() {
     replay(&mut input, &mut out);
 }
 
-// The header, then the report of what comes in, then that of a last line without its line end.
+// Prints the header, then the report of the whole input, then that of a last line without its line
+// end.
 fn replay(input: &mut [u8], out: &mut [u8])
     requires { ⌜ 65536 ≤ length (now out) ⌝ }
 {
@@ -31,7 +33,8 @@ fn replay(input: &mut [u8], out: &mut [u8])
     io::write_all(STDOUT_FILENO, &out[..written]);
 }
 
-// Reads to the end of the input. A proved loop has to end, and nothing says that the input does: the reads are counted down from 2^64 - 1.
+// Reads to the end of the input. A proved loop has to end, and the input may be endless: so the
+// reads are counted down from 2^64 - 1.
 fn read_all(input: &mut [u8], out: &mut [u8]) -> Replay
     requires { ⌜ 65536 ≤ length (now out) ⌝ }
 {
@@ -46,7 +49,8 @@ fn read_all(input: &mut [u8], out: &mut [u8]) -> Replay
     kept
 }
 
-// Reads once and runs what came. Where nothing came, or the read failed, the input has ended and no read is left.
+// Reads once and runs the bytes read. If there are none, or the read failed, the input has ended
+// and `reads` becomes 0.
 fn read_once(kept: Replay, reads: u64, input: &mut [u8], out: &mut [u8]) -> Turn
     requires { ⌜ (0 < reads) × (65536 ≤ length (now out)) ⌝ }
     ensures { λ r. ⌜ r .reads < reads ⌝ }
@@ -63,7 +67,8 @@ fn read_once(kept: Replay, reads: u64, input: &mut [u8], out: &mut [u8]) -> Turn
     }
 }
 
-// Runs the first `count` bytes of the input, in parts of at most 256 bytes, for which the output has room.
+// Runs the first `count` bytes of `input` in parts of at most 256 bytes, since the output has room
+// for the reports of 256 lines.
 fn run(kept: Replay, input: &[u8], count: usize, out: &mut [u8]) -> Replay
     requires { ⌜ (count ≤ length (now input)) × (65536 ≤ length (now out)) ⌝ }
     ensures { λ r. ⌜ r ≡ feedNext kept (take count (now (input .entry))) ⌝ }
@@ -79,7 +84,7 @@ fn run(kept: Replay, input: &[u8], count: usize, out: &mut [u8]) -> Replay
     replay
 }
 
-// Where the part that begins at `at` ends.
+// The end of the part that begins at `at`: 256 bytes further, or `count` if fewer are left.
 fn part_end(at: usize, count: usize) -> usize
     requires { ⌜ at < count ⌝ }
     ensures { λ r. ⌜ (at < r) × (r ≤ count) × (r ≤ at + 256) ⌝ }
@@ -87,7 +92,7 @@ fn part_end(at: usize, count: usize) -> usize
     if 256 < count - at { at + 256 } else { count }
 }
 
-// Runs one part, and prints its report.
+// Runs one part and prints its report.
 fn run_part(kept: Replay, part: &[u8], out: &mut [u8]) -> Replay
     requires { ⌜ length (now part) * 256 ≤ length (now out) ⌝ }
     ensures { λ r. ⌜ r ≡ feedNext kept (now (part .entry)) ⌝ }

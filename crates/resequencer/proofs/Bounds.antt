@@ -1,4 +1,4 @@
--- How far NESN goes: in good order the numbers passed are at most 32.
+-- By how much NESN goes up: in good order by at most 32.
 -- Assumes nothing.
 use mathlib.Core.Path.{_≡_, refl, sym, ap, _∙_, subst}
 use mathlib.Core.Bool.{Bool, true, false, not}
@@ -14,7 +14,7 @@ use Rattle.resequencer.specs.Events.{runAfterNesn, passedByClock}
 use Rattle.resequencer.proofs.Order.{InOrder, number-ahead, next-number}
 
 module _ (s : Resequencer) (o : InOrder s) where
-  -- past the window nothing is held
+  -- nothing outside the window is held
   pub past-window : (d : ℕ) → d < 64 → 31 < d → isHeld s (numberAt s d) ≡ false
   past-window d l k = go (isHeld s (numberAt s d)) refl
     where

@@ -1,4 +1,5 @@
--- What an arrival and a clock end answer, case by case: the premises are the tests.
+-- The answer to an arrival and to a clock end, case by case: the premises are the tests of the
+-- definition.
 -- Assumes nothing.
 use mathlib.Core.Path.{_≡_, ap}
 use mathlib.Core.Bool.{true, false}
@@ -13,7 +14,7 @@ use Rattle.refusal.proofs.Checks.{check-done}
 use Rattle.sequence.specs.Numbers.{inField}
 use Rattle.resequencer.specs.declared.Resequencer.{Resequencer}
 use Rattle.resequencer.specs.declared.Outcome.the-variants.{Held, Old, Duplicate, Refused as NotTaken}
-use Rattle.resequencer.specs.State.{isHeld, hasClock, ahead, goodOrder}
+use Rattle.resequencer.specs.State.{isHeld, hasClock, ahead, inOrder}
 use Rattle.resequencer.specs.Events.{plain, hold, handOnRun, takeArrival, arriveVerdict, arriveBy, arriveOf, takeClockEnd, clockEndVerdict, clockEndBy, clockEndOf}
 
 module _ (s : Resequencer) where
@@ -45,11 +46,11 @@ module _ (s : Resequencer) where
     arrive-refused why e = ap (λ (v : Verdict). arriveBy v s n ticket) e
 
   module _ (n : ℕ) where
-    -- what is known where an arrival is not refused
-    pub arrive-passed : arriveVerdict s n ≡ Done → (goodOrder s ≡ true) × (n < 64)
+    -- what holds if an arrival is not refused
+    pub arrive-passed : arriveVerdict s n ≡ Done → (inOrder s ≡ true) × (n < 64)
     unfolding arriveVerdict
     arrive-passed e =
-        let a = check-done (goodOrder s) _ _ e in
+        let a = check-done (inOrder s) _ _ e in
         (a .0, ltb-true n 64 (check-done (inField 64 n) _ _ (a .1) .0))
 
     -- ---- the end of a clock
@@ -62,9 +63,9 @@ module _ (s : Resequencer) where
     unfolding clockEndOf
     end-refused why e = ap (λ (v : Verdict). clockEndBy v s n) e
 
-    pub end-passed : clockEndVerdict s n ≡ Done → (goodOrder s ≡ true) × ((n < 64) × (hasClock s n ≡ true))
+    pub end-passed : clockEndVerdict s n ≡ Done → (inOrder s ≡ true) × ((n < 64) × (hasClock s n ≡ true))
     unfolding clockEndVerdict
     end-passed e =
-        let a = check-done (goodOrder s) _ _ e in
+        let a = check-done (inOrder s) _ _ e in
         let b = check-done (inField 64 n) _ _ (a .1) in
         (a .0, (ltb-true n 64 (b .0), check-done (hasClock s n) _ _ (b .1) .0))

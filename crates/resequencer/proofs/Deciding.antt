@@ -1,4 +1,5 @@
--- Good order decided on both sets turned down by NESN, and by one pass over the tickets.
+-- The code's tests, on both sets rotated by NESN and in one pass over the tickets, decide good
+-- order.
 -- Assumes nothing.
 use mathlib.Core.Path.{_≡_, refl, sym, ap, ap₂, _∙_}
 use mathlib.Core.Bool.{Bool, true, false, not, cond, _&&_, _||_, false≢true, true≢false}
@@ -20,16 +21,17 @@ use Rattle.wordset.proofs.Sets.{member-bit, low-digit, member-none, member-past
 use Rattle.wordset.proofs.Rings.{member-rotate, rotate-lt}
 use Rattle.wordset.proofs.Masks.{empty, within, within-none, within-le, apart, apart-none, below, top-member, top-lt, top, cut}
 use Rattle.resequencer.specs.declared.Resequencer.{Resequencer}
-use Rattle.resequencer.specs.State.{isHeld, hasClock, ticketOf, ahead, numberAt, meetsClock, clockBelowHsnr, ticketsOfHeld, goodOrder}
+use Rattle.resequencer.specs.State.{isHeld, hasClock, ticketOf, ahead, numberAt, meetsClock, clockBelowHsnr, ticketsOfHeld, inOrder}
 use Rattle.resequencer.specs.Parts.{windowInOrder, hsnrInOrder, ticketFits}
 use Rattle.resequencer.proofs.Order.{around, both, same-test, implied, implication, InOrder, in-order, good-order, number-ahead}
 
--- ---- the carry: going down from d through held numbers a clock is met exactly if h + c, cut off above d, carries out of d
+-- ---- the carry: going down from distance d through held numbers a clock is met exactly if h + c,
+-- both cut off above bit d, carries out of bit d
 
 same-leb : (a b c d : ℕ) → (a ≤ b → c ≤ d) → (c ≤ d → a ≤ b) → leb a b ≡ leb c d
 same-leb a b c d f g = same-test (leb a b) (leb c d) (λ t. le-leb c d (f (leb-true a b t))) (λ t. le-leb a b (g (leb-true c d t)))
 
--- what is at places up to d decides
+-- only the distances up to d matter
 pub meets-same : (p q p′ q′ : ℕ → Bool) (d : ℕ) → ((k : ℕ) → k ≤ d → p k ≡ p′ k) → ((k : ℕ) → k ≤ d → q k ≡ q′ k) → meetsClock p q d ≡ meetsClock p′ q′ d
 unfolding meetsClock
 meets-same p q p′ q′ zero f g = refl
@@ -67,7 +69,7 @@ module _ (h c : ℕ) (low : member h 0 ≡ false) (sub : (d : ℕ) → d < 64 �
       carry e l
       ∙ same-leb (2 ^ suc e) (h % 2 ^ suc e + c % 2 ^ suc e) 2 ((h + c) / 2 ^ e) (λ k. i .1 (omega (arith, pow-suc 2 e))) (λ k. omega (arith, i .0 k, pow-suc 2 e))
 
--- the sum fits a word
+-- h + c does not overflow a word
 pub sum-fits : (h c : ℕ) → c < 2 ^ 64 → windowInOrder h c ≡ true → h + c < 2 ^ 64
 unfolding windowInOrder
 sum-fits h c l e =
@@ -224,7 +226,7 @@ module _ (s : Resequencer) where
             ap (isHeld s) (sym (around s d)) ∙ sym (held-at (d % 64) l)
             ∙ w .on-held (d % 64) l (clock-at (d % 64) l ∙ ap (hasClock s) (around s d) ∙ k)
 
-        -- 63 and 64, which is 0 again: nothing is held at 63
+        -- distance 64 is distance 0 again: its neighbour 63 has no clock, as nothing is held there
         alone : (d : ℕ) → d < 64 → hasClock s (numberAt s d) ≡ true → hasClock s (numberAt s (suc d)) ≡ false
         alone d l k = elim (decLt (suc d) 64) [
           | yes a ↦ sym (clock-at (suc d) a) ∙ w .apart d a (clock-at d l ∙ k)
@@ -247,7 +249,7 @@ module _ (s : Resequencer) where
       met = λ z. same-meets ∙ o .clock-met (some-held z);
     }
       where
-        -- what must be held is not
+        -- a number whose being held is contradictory is not held
         not-held : (d : ℕ) → d < 64 → (isHeld s (numberAt s d) ≡ true → ⊥) → isHeld s (numberAt s d) ≡ false
         not-held d l f = go (isHeld s (numberAt s d)) f
           where
@@ -264,10 +266,10 @@ module _ (s : Resequencer) where
           | no a ↦ absurd (true≢false (sym (o .hsnr-held (some-held z)) ∙ member-past 64 (s .held) (s .hsnr .0) fit (omega arith)))
         ]
 
-    -- the tests decide
-    pub decided : goodOrder s ≡ (inField 64 (s .nesn .0) && (windowInOrder h c && (hsnrInOrder h c e (s .hsnr .0) && ticketsOfHeld s)))
+    -- the tests together are good order
+    pub decided : inOrder s ≡ (inField 64 (s .nesn .0) && (windowInOrder h c && (hsnrInOrder h c e (s .hsnr .0) && ticketsOfHeld s)))
     decided =
-        same-test (goodOrder s) _
+        same-test (inOrder s) _
         (λ t.
         let o = in-order s t in
         let w = words o in
@@ -282,9 +284,9 @@ module _ (s : Resequencer) where
         tickets-tested : InOrder s → ticketsOfHeld s ≡ true
         tickets-tested o = unfold ticketsOfHeld in every-all 64 _ (λ n l. implication (not (isHeld s n)) _ (λ k. eq-eqb (ticketOf s n) 0 (o .tickets n l (not-true (isHeld s n) k))))
 
-    -- as the code names its results
+    -- the same, for the results of the code's calls
     pub decided-by : (x y d : ℕ) (f w g t : Bool) → x ≡ h → y ≡ c → d ≡ e → f ≡ inField 64 (s .nesn .0) → w ≡ windowInOrder x y → g ≡ hsnrInOrder x y d (s .hsnr .0)
-        → t ≡ every 64 (ticketFits (s .held) (s .tickets)) → goodOrder s ≡ (f && (w && (g && t)))
+        → t ≡ every 64 (ticketFits (s .held) (s .tickets)) → inOrder s ≡ (f && (w && (g && t)))
     unfolding ticketsOfHeld ticketFits
     decided-by x y d f w g t ex ey ed ef ew eg et =
         let w′ : windowInOrder h c ≡ w = sym (ew ∙ ap₂ windowInOrder ex ey) in

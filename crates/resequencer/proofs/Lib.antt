@@ -1,4 +1,4 @@
--- What is proved of the resequencer's definitions.
+-- The laws of the resequencer's definitions.
 pub mod Order
 pub mod Bounds
 pub mod Cases

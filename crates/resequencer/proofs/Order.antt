@@ -1,4 +1,5 @@
--- Good order by distance from NESN: what `goodOrder` says clause by clause of every number, as facts.
+-- Good order as facts about every distance from NESN: `InOrder` holds exactly if the test `inOrder`
+-- is true.
 -- Assumes nothing.
 use mathlib.Core.Path.{_≡_, refl, sym, ap, _∙_, subst}
 use mathlib.Core.Bool.{Bool, true, false, not, _&&_, false≢true}
@@ -13,7 +14,7 @@ use Rattle.sequence.proofs.Modular.{distance-lt, distance-at, at-distance}
 use Rattle.wordset.specs.Sets.{every}
 use Rattle.wordset.proofs.Sets.{every-at, every-all}
 use Rattle.resequencer.specs.declared.Resequencer.{Resequencer}
-use Rattle.resequencer.specs.State.{isHeld, hasClock, ticketOf, ahead, numberAt, implies, nothingHeld, hsnrIdle, heldInWindow, clocksOnHeld, clocksApart, hsnrFurthest, clockBelowHsnr, ticketsOfHeld, goodOrder}
+use Rattle.resequencer.specs.State.{isHeld, hasClock, ticketOf, ahead, numberAt, implies, nothingHeld, hsnrIdle, heldInWindow, clocksOnHeld, clocksApart, hsnrFurthest, clockBelowHsnr, ticketsOfHeld, inOrder}
 
 -- ---- tests
 
@@ -56,13 +57,13 @@ module _ (s : Resequencer) where
   pub next-number : (d : ℕ) → (numberAt s d + 1) % 64 ≡ numberAt s (suc d)
   next-number d = omega arith
 
-  -- distances go round
+  -- distances wrap at 64
   pub around : (d : ℕ) → numberAt s (d % 64) ≡ numberAt s d
   around d = add-mod-mod (s .nesn .0) d 64
 
 pub record InOrder (s : Resequencer) : Type 0 where
   pub nesn-lt : s .nesn .0 < 64
-  -- what is held is at distance 1 to 31
+  -- held numbers are at distance 1 to 31
   pub window : (d : ℕ) → d < 64 → isHeld s (numberAt s d) ≡ true → (1 ≤ d) × (d ≤ 31)
   pub on-held : (d : ℕ) → hasClock s (numberAt s d) ≡ true → isHeld s (numberAt s d) ≡ true
   pub apart : (d : ℕ) → hasClock s (numberAt s d) ≡ true → hasClock s (numberAt s (suc d)) ≡ false
@@ -83,8 +84,8 @@ module _ (s : Resequencer) where
     hsnr : implies (not (nothingHeld s)) (hsnrFurthest s && clockBelowHsnr s) ≡ true
     tickets : ticketsOfHeld s ≡ true
 
-  clauses : goodOrder s ≡ true → Clauses
-  unfolding goodOrder
+  clauses : inOrder s ≡ true → Clauses
+  unfolding inOrder
   clauses e =
       let a = both-true (hsnrIdle s) _ e in
       let b = both-true (ltb (s .nesn .0) 64) _ (a .1) in
@@ -106,7 +107,7 @@ module _ (s : Resequencer) where
       both-true (hsnrFurthest s) (clockBelowHsnr s)
       (implied (not (nothingHeld s)) _ (q .hsnr) (ap not (ne-eqb (s .held) 0 z)))
 
-  pub in-order : goodOrder s ≡ true → InOrder s
+  pub in-order : inOrder s ≡ true → InOrder s
   unfolding heldInWindow clocksOnHeld clocksApart hsnrFurthest ticketsOfHeld
   in-order e = facts (clauses e)
     where
@@ -128,8 +129,8 @@ module _ (s : Resequencer) where
         tickets = λ n l t. eqb-true (ticketOf s n) 0 (implied (not (isHeld s n)) _ (every-at 64 _ (q .tickets) n l) (ap not t));
       }
 
-  pub good-order : InOrder s → goodOrder s ≡ true
-  unfolding goodOrder heldInWindow clocksOnHeld clocksApart hsnrFurthest ticketsOfHeld
+  pub good-order : InOrder s → inOrder s ≡ true
+  unfolding inOrder heldInWindow clocksOnHeld clocksApart hsnrFurthest ticketsOfHeld
   good-order o =
       both _ _ (implication (nothingHeld s) _ (λ z. eq-eqb (s .hsnr .0) 0 (o .idle (eqb-true (s .held) 0 z))))
       (both _ _ (lt-ltb (s .nesn .0) 64 (o .nesn-lt))

@@ -1,4 +1,4 @@
--- The numbers that NESN passes: their mask, what is left of the sets, and the tickets left.
+-- The numbers that NESN passes: their mask, and what is left of the sets and of the tickets.
 -- Assumes nothing.
 use mathlib.Core.Path.{_≡_, refl, sym, ap, ap₂, _∙_}
 use mathlib.Core.Bool.{Bool, not, cond, _&&_}
@@ -50,13 +50,13 @@ module _ (nesn : ℕ) where
   left : List ℕ → ℕ → ℕ → ℕ
   left tickets m n = cond (ltb (distance 64 nesn n) m) 0 (getD tickets n 0)
 
-  -- none passed
+  -- no number passed
   pub left-none : (tickets : List ℕ) (m : ℕ) → length tickets ≡ 64 → m ≡ 0 → tickets ≡ ticketsLeft tickets nesn m
   unfolding ticketsLeft left
   left-none tickets m e z =
       is-from 64 tickets (left tickets m) e (λ i h. sym (ap (λ (b : Bool). cond b 0 (getD tickets i 0)) (le-ltb (distance 64 nesn i) m (omega arith))))
 
-  -- one more
+  -- one more number passed
   pub left-more : (tickets l : List ℕ) (i at : ℕ) → i < 64 → l ≡ ticketsLeft tickets nesn i → at ≡ (nesn + i) % 64 → set l at 0 ≡ ticketsLeft tickets nesn (i + 1)
   unfolding ticketsLeft left
   left-more tickets l i at h e a =
@@ -64,7 +64,7 @@ module _ (nesn : ℕ) where
       ∙ is-from 64 (set (listFrom 0 64 (left tickets i)) ((nesn + i) % 64) 0) (left tickets (i + 1))
       (length-set (listFrom 0 64 (left tickets i)) ((nesn + i) % 64) 0 ∙ length-from 0 64 (left tickets i)) step
     where
-      -- a number at another distance stands at another place
+      -- a number at another distance is at another index
       other : (n : ℕ) → n < 64 → distance 64 nesn n ≢ i → getD (set (listFrom 0 64 (left tickets i)) ((nesn + i) % 64) 0) n 0 ≡ left tickets i n
       other n b d =
           getD-set-other (listFrom 0 64 (left tickets i)) ((nesn + i) % 64) n 0 0 (λ q. d (ap (distance 64 nesn) q ∙ distance-at 64 (lit< tt) nesn i h))
@@ -85,7 +85,7 @@ module _ (nesn : ℕ) where
             ]
       ]
 
-  -- the next number's ticket still stands
+  -- the ticket of the next number is unchanged
   pub left-next : (tickets : List ℕ) (i : ℕ) → i < 64 → getD (ticketsLeft tickets nesn i) ((nesn + i) % 64) 0 ≡ getD tickets ((nesn + i) % 64) 0
   unfolding ticketsLeft left
   left-next tickets i h =
@@ -93,14 +93,14 @@ module _ (nesn : ℕ) where
       from-at 64 (left tickets i) n (mod-lt (nesn + i) (lit< tt))
       ∙ ap (λ (b : Bool). cond b 0 (getD tickets n 0)) (le-ltb (distance 64 nesn n) i (omega (arith, distance-at 64 (lit< tt) nesn i h)))
 
-  -- one more that has no ticket
+  -- one more number passed whose ticket is 0 already
   pub left-same : (tickets : List ℕ) (i : ℕ) → i < 64 → getD tickets ((nesn + i) % 64) 0 ≡ 0 → ticketsLeft tickets nesn i ≡ ticketsLeft tickets nesn (i + 1)
   left-same tickets i h z =
       let l = ticketsLeft tickets nesn i in
       let n = (nesn + i) % 64 in
       sym (set-getD l n 0) ∙ ap (set l n) (left-next tickets i h ∙ z) ∙ left-more tickets l i n h refl refl
 
--- ---- the state after it
+-- ---- the state after NESN has gone up
 
 pub advanced : (s : Resequencer) (m passed held clocks : ℕ) (hsnr : LinkNumber) (tickets : List ℕ) → passed ≡ passedNumbers (s .nesn .0) m
     → held ≡ difference 64 (s .held) passed → clocks ≡ difference 64 (s .clocks) passed → hsnr ≡ hsnrLeft held (s .hsnr) → tickets ≡ ticketsLeft (s .tickets) (s .nesn .0) m

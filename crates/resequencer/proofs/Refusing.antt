@@ -1,4 +1,5 @@
--- Refusals change nothing: what is not refused has the number 0, and a refused call is told by the given state.
+-- Refusals change nothing: an answer whose number is not 0 comes from a refusing verdict, and there
+-- the definition returns the given state.
 -- Assumes nothing.
 use mathlib.Core.Path.{_≡_, refl}
 use mathlib.Core.Bool.{Bool, true, false, cond}

@@ -1,4 +1,6 @@
--- The numbers and the tickets of an answer go apart: what becomes of the numbers does not depend on the tickets, and with it the whole answer is told.
+-- What an event does to the numbers of a state does not depend on the tickets, and the step that
+-- the numbers take, with the tickets, determines the whole answer: `stepAnswer` equals `arriveOf`
+-- and `clockEndOf`.
 -- Assumes nothing.
 use mathlib.Core.Path.{_≡_, refl, sym, ap, ap₂, _∙_, subst}
 use mathlib.Core.Bool.{Bool, true, false, not, cond, _&&_, false≢true}
@@ -26,9 +28,9 @@ use Rattle.resequencer.specs.declared.Step.{Step}
 use Rattle.resequencer.specs.declared.Outcome.{Outcome}
 use Rattle.resequencer.specs.declared.Outcome.the-variants.{Held, HandedOn, Old, Duplicate, Refused as NotTaken}
 use Rattle.resequencer.specs.declared.Answer.{Answer}
-use Rattle.resequencer.specs.State.{isHeld, hasClock, ahead, implies, nothingHeld, hsnrIdle, clockBelowHsnr, heldInWindow, clocksOnHeld, clocksApart, hsnrFurthest, ticketsOfHeld, goodOrder}
+use Rattle.resequencer.specs.State.{isHeld, hasClock, ahead, implies, nothingHeld, hsnrIdle, clockBelowHsnr, heldInWindow, clocksOnHeld, clocksApart, hsnrFurthest, ticketsOfHeld, inOrder}
 use Rattle.resequencer.specs.Events.{plain, places, handOn, remaining, advance, heldTickets, startsClock, hold, runAfterNesn, handOnRun, takeArrival, arriveVerdict, arriveBy, arriveOf, passedByClock, takeClockEnd, clockEndVerdict, clockEndBy, clockEndOf}
-use Rattle.resequencer.specs.Parts.{ticketFits, ticketsLeft, arrivedTickets, ticketsFrom}
+use Rattle.resequencer.specs.Parts.{ticketFits, ticketsLeft, arrivedTickets, heldTicketsFrom}
 use Rattle.resequencer.specs.Numbers.{numbersOf, bare, stepBy, arriveStep, clockEndStep, handsOn, holds, StepFits, stepTickets, stepState, stepAnswer}
 use Rattle.resequencer.proofs.Order.{implication, in-order}
 use Rattle.resequencer.proofs.Bounds.{run-after-bound, passed-bound}
@@ -50,9 +52,9 @@ pub and-true : (b : Bool) → (b && true) ≡ b
 and-true true = refl
 and-true false = refl
 
--- good order is that of the numbers and that of the tickets
-pub good-split : (s : Resequencer) → goodOrder s ≡ (ticketsOfHeld s && goodOrder (bare (numbersOf s)))
-unfolding goodOrder heldInWindow clocksOnHeld clocksApart hsnrFurthest
+-- a state is in good order exactly if its numbers are and its tickets fit them
+pub good-split : (s : Resequencer) → inOrder s ≡ (ticketsOfHeld s && inOrder (bare (numbersOf s)))
+unfolding inOrder heldInWindow clocksOnHeld clocksApart hsnrFurthest
 good-split s =
     split (hsnrIdle s) (inField 64 (s .nesn .0)) (heldInWindow s) (clocksOnHeld s) (clocksApart s) (implies (not (nothingHeld s)) (hsnrFurthest s && clockBelowHsnr s)) (ticketsOfHeld s) (ticketsOfHeld (bare (numbersOf s))) (bare-tickets (numbersOf s))
   where
@@ -72,14 +74,14 @@ good-split s =
     split false b c d e f true u q = refl
     split false b c d e f false u q = refl
 
--- as the code decides it
-pub order-told : (s : Resequencer) (t g : Bool) → t ≡ every 64 (ticketFits (s .held) (s .tickets)) → t ≡ true → g ≡ goodOrder (bare (numbersOf s)) → g ≡ goodOrder s
+-- the same, for the tests that the code makes
+pub order-told : (s : Resequencer) (t g : Bool) → t ≡ every 64 (ticketFits (s .held) (s .tickets)) → t ≡ true → g ≡ inOrder (bare (numbersOf s)) → g ≡ inOrder s
 unfolding ticketFits ticketsOfHeld
-order-told s t g e q r = r ∙ sym (good-split s ∙ ap (λ (b : Bool). b && goodOrder (bare (numbersOf s))) (sym e ∙ q))
+order-told s t g e q r = r ∙ sym (good-split s ∙ ap (λ (b : Bool). b && inOrder (bare (numbersOf s))) (sym e ∙ q))
 
-pub order-stray : (s : Resequencer) (t : Bool) → t ≡ every 64 (ticketFits (s .held) (s .tickets)) → t ≡ false → t ≡ goodOrder s
+pub order-stray : (s : Resequencer) (t : Bool) → t ≡ every 64 (ticketFits (s .held) (s .tickets)) → t ≡ false → t ≡ inOrder s
 unfolding ticketFits ticketsOfHeld
-order-stray s t e q = q ∙ sym (good-split s ∙ ap (λ (b : Bool). b && goodOrder (bare (numbersOf s))) (sym e ∙ q))
+order-stray s t e q = q ∙ sym (good-split s ∙ ap (λ (b : Bool). b && inOrder (bare (numbersOf s))) (sym e ∙ q))
 
 -- ---- the parts of an answer
 
@@ -115,7 +117,7 @@ pass-step m k next l e =
     step : Numbers → ℕ → Step
     step x y = record { outcome = HandedOn; next = x; passed = y }
 
--- which tickets are handed on does not matter to the numbers
+-- the step is the same whichever tickets are handed on
 pub any-tickets : (m : Numbers) (xs ys : List ℕ) (s : Resequencer) → stepBy m (handOn xs s) ≡ stepBy m (handOn ys s)
 unfolding stepBy handOn
 any-tickets m xs ys s = refl
@@ -139,7 +141,7 @@ module _ (fits : Bool) (m : Numbers) (n : ℕ) where
   pub arrive-left : (why : Refusal) → check fits NotInOrder (arriveVerdict (bare m) n) ≡ Refused why → stepBy m (plain (NotTaken why) (bare m)) ≡ arriveStep fits m n
   arrive-left why e = sym (arrive-step fits m n ∙ ap (λ (v : Verdict). stepBy m (arriveBy v (bare m) n 0)) e)
 
-  pub arrive-may : check fits NotInOrder (arriveVerdict (bare m) n) ≡ Done → (goodOrder (bare m) ≡ true) × (n < 64)
+  pub arrive-may : check fits NotInOrder (arriveVerdict (bare m) n) ≡ Done → (inOrder (bare m) ≡ true) × (n < 64)
   arrive-may e = arrive-passed (bare m) n (check-done fits _ _ e .1)
 
   pub end-taken : check fits NotInOrder (clockEndVerdict (bare m) n) ≡ Done → stepBy m (takeClockEnd (bare m) n) ≡ clockEndStep fits m n
@@ -148,10 +150,10 @@ module _ (fits : Bool) (m : Numbers) (n : ℕ) where
   pub end-left : (why : Refusal) → check fits NotInOrder (clockEndVerdict (bare m) n) ≡ Refused why → stepBy m (plain (NotTaken why) (bare m)) ≡ clockEndStep fits m n
   end-left why e = sym (end-step fits m n ∙ ap (λ (v : Verdict). stepBy m (clockEndBy v (bare m) n)) e)
 
-  pub end-may : check fits NotInOrder (clockEndVerdict (bare m) n) ≡ Done → (goodOrder (bare m) ≡ true) × ((n < 64) × (member (m .clocks) n ≡ true))
+  pub end-may : check fits NotInOrder (clockEndVerdict (bare m) n) ≡ Done → (inOrder (bare m) ≡ true) × ((n < 64) × (member (m .clocks) n ≡ true))
   end-may e = end-passed (bare m) n (check-done fits _ _ e .1)
 
--- ---- what is passed
+-- ---- by how much NESN goes up
 
 module _ (m : Numbers) where
   pub passed-run : (k : ℕ) → k ≡ runAfterNesn (bare m) → stepBy m (handOn [] (advance (bare m) (k + 1))) ≡ stepBy m (handOnRun (bare m) 0)
@@ -162,7 +164,7 @@ module _ (m : Numbers) where
   unfolding takeClockEnd
   passed-end n k e = ap (λ (x : ℕ). stepBy m (handOn [] (advance (bare m) x))) e ∙ any-tickets m _ _ _
 
--- ---- what a step asks of the places
+-- ---- every step of an arrival and of a clock end meets `StepFits`
 
 module _ (m : Numbers) (d n ticket : ℕ) (one : d ≤ 1) (none : d ≡ 0 → ticket ≡ 0) where
   quiet : (o : Outcome) (s : Resequencer) → handsOn o ≡ false → (holds o ≡ true → n < 64) → StepFits (m .nesn .0) (stepBy m (plain o s)) d n ticket
@@ -192,7 +194,7 @@ module _ (m : Numbers) (d n ticket : ℕ) (one : d ≤ 1) (none : d ≡ 0 → ti
 pub arrive-fits : (fits : Bool) (m : Numbers) (n ticket : ℕ) → StepFits (m .nesn .0) (arriveStep fits m n) 1 n ticket
 arrive-fits fits m n ticket = go (check fits NotInOrder (arriveVerdict (bare m) n)) refl
   where
-    taken : goodOrder (bare m) ≡ true → n < 64 → (a h z : Bool)
+    taken : inOrder (bare m) ≡ true → n < 64 → (a h z : Bool)
         → StepFits (m .nesn .0) (stepBy m (cond a (plain Old (bare m)) (cond h (plain Duplicate (bare m)) (cond z (handOnRun (bare m) 0) (plain Held (hold (bare m) n 0)))))) 1 n ticket
     taken g l true h z = quiet m 1 n ticket (omega arith) (λ e. absurd (omega arith)) Old (bare m) refl (λ t. l)
     taken g l false true z = quiet m 1 n ticket (omega arith) (λ e. absurd (omega arith)) Duplicate (bare m) refl (λ t. l)
@@ -234,14 +236,14 @@ module _ (s : Resequencer) where
   hands xs k d n ticket l =
       ap (λ (x : ℕ). stepAnswer s (record { outcome = HandedOn; next = numbersOf (advance (bare m) k); passed = x }) d n ticket) (distance-at 64 (lit< tt) (s .nesn .0) k l)
 
-  hands-run : (n ticket : ℕ) → goodOrder s ≡ true → stepAnswer s (stepBy m (handOnRun (bare m) 0)) 1 n ticket ≡ handOnRun s ticket
+  hands-run : (n ticket : ℕ) → inOrder s ≡ true → stepAnswer s (stepBy m (handOnRun (bare m) 0)) 1 n ticket ≡ handOnRun s ticket
   unfolding handOnRun runAfterNesn
   hands-run n ticket g =
       let e : runAfterNesn s + 1 - 1 ≡ runAfterNesn s = omega arith in
       hands _ (runAfterNesn s + 1) 1 n ticket (omega (arith, run-after-bound s (in-order s g)))
       ∙ ap (λ (k : ℕ). handOn (ticket ∷ heldTickets s 1 k) (advance s (runAfterNesn s + 1))) e
 
-  ends-whole : (n : ℕ) → goodOrder s ≡ true → n < 64 → hasClock s n ≡ true → stepAnswer s (stepBy m (takeClockEnd (bare m) n)) 0 n 0 ≡ takeClockEnd s n
+  ends-whole : (n : ℕ) → inOrder s ≡ true → n < 64 → hasClock s n ≡ true → stepAnswer s (stepBy m (takeClockEnd (bare m) n)) 0 n 0 ≡ takeClockEnd s n
   unfolding takeClockEnd passedByClock
   ends-whole n g l t =
       let e : passedByClock s n - 0 ≡ passedByClock s n = omega arith in
@@ -252,7 +254,7 @@ module _ (s : Resequencer) where
   unfolding stepAnswer stepTickets stepState stepBy plain hold startsClock places
   keeps n ticket = refl
 
-  taken-whole : (n ticket : ℕ) → goodOrder s ≡ true → stepAnswer s (stepBy m (takeArrival (bare m) n 0)) 1 n ticket ≡ takeArrival s n ticket
+  taken-whole : (n ticket : ℕ) → inOrder s ≡ true → stepAnswer s (stepBy m (takeArrival (bare m) n 0)) 1 n ticket ≡ takeArrival s n ticket
   unfolding takeArrival
   taken-whole n ticket g = go (ltb 31 (ahead s n)) (isHeld s n) (eqb (ahead s n) 0)
     where
@@ -264,12 +266,12 @@ module _ (s : Resequencer) where
       go false false true = hands-run n ticket g
       go false false false = keeps n ticket
 
-  -- tickets that fit: the numbers decide
-  same-order : ticketsOfHeld s ≡ true → goodOrder s ≡ goodOrder (bare m)
-  same-order t = good-split s ∙ ap (λ (b : Bool). b && goodOrder (bare m)) t
+  -- if the tickets fit, the verdict on the numbers is the verdict on the state
+  same-order : ticketsOfHeld s ≡ true → inOrder s ≡ inOrder (bare m)
+  same-order t = good-split s ∙ ap (λ (b : Bool). b && inOrder (bare m)) t
 
-  no-order : ticketsOfHeld s ≡ false → goodOrder s ≡ false
-  no-order t = good-split s ∙ ap (λ (b : Bool). b && goodOrder (bare m)) t
+  no-order : ticketsOfHeld s ≡ false → inOrder s ≡ false
+  no-order t = good-split s ∙ ap (λ (b : Bool). b && inOrder (bare m)) t
 
   same-arrive : (n : ℕ) → ticketsOfHeld s ≡ true → arriveVerdict s n ≡ arriveVerdict (bare m) n
   unfolding arriveVerdict
@@ -350,12 +352,12 @@ module _ (s : Resequencer) (step : Step) (d n ticket : ℕ) where
       (cond h (ticketsLeft (s .tickets) (s .nesn .0) (step .passed)) (cond k (set (s .tickets) n ticket) (s .tickets)))) e f)
 
   pub answer-handed : (count : ℕ) (out left : List ℕ) → handsOn (step .outcome) ≡ true
-      → count ≡ length (arrivedTickets d ticket ++ ticketsFrom (s .held) (s .tickets) (s .nesn .0 + d) (step .passed - d))
-      → out ≡ places (arrivedTickets d ticket ++ ticketsFrom (s .held) (s .tickets) (s .nesn .0 + d) (step .passed - d))
+      → count ≡ length (arrivedTickets d ticket ++ heldTicketsFrom (s .held) (s .tickets) (s .nesn .0 + d) (step .passed - d))
+      → out ≡ places (arrivedTickets d ticket ++ heldTicketsFrom (s .held) (s .tickets) (s .nesn .0 + d) (step .passed - d))
       → left ≡ ticketsLeft (s .tickets) (s .nesn .0) (step .passed)
       → answerWith step count out left ≡ stepAnswer s step d n ticket
   answer-handed count out left h c o l =
-      let e : arrivedTickets d ticket ++ ticketsFrom (s .held) (s .tickets) (s .nesn .0 + d) (step .passed - d) ≡ arrivedTickets d ticket ++ heldTickets s d (step .passed - d) =
+      let e : arrivedTickets d ticket ++ heldTicketsFrom (s .held) (s .tickets) (s .nesn .0 + d) (step .passed - d) ≡ arrivedTickets d ticket ++ heldTickets s d (step .passed - d) =
       ap (λ (x : List ℕ). arrivedTickets d ticket ++ x) (held-from s d (step .passed - d)) in
       ap₂ (λ (x : ℕ) (y : List ℕ). answerWith step x y left) (c ∙ ap length e) (o ∙ ap places e)
       ∙ ap (answerWith step (length (arrivedTickets d ticket ++ heldTickets s d (step .passed - d))) (places (arrivedTickets d ticket ++ heldTickets s d (step .passed - d)))) l

@@ -1,4 +1,5 @@
--- One pass over the tickets: the ones of tickets of numbers not held, gathered in a word that is 0 exactly if there are none.
+-- One pass over the tickets: the bitwise or of the tickets of numbers not held is 0 exactly if each
+-- of them is 0.
 -- Assumes nothing.
 use mathlib.Core.Path.{_≡_, refl, ap, _∙_}
 use mathlib.Core.Bool.{Bool, true, false, not, cond, _&&_, _||_}
@@ -27,7 +28,7 @@ or-none a b =
     let x : a ≡ 0 = eqb-true a 0 (both-true (eqb b 0) (eqb a 0) t .1) in
     eq-eqb (bitOr a b) 0 (omega (arith, or-add-and a b)))
 
--- one ticket more
+-- one more ticket
 gathered : (held : ℕ) (tickets : List ℕ) (n stray : ℕ) → eqb (gatherStray stray (member held n) (getD tickets n 0)) 0 ≡ (ticketFits held tickets n && eqb stray 0)
 unfolding gatherStray ticketFits
 gathered held tickets n stray = go (member held n)
@@ -36,14 +37,14 @@ gathered held tickets n stray = go (member held n)
     go true = refl
     go false = or-none stray (getD tickets n 0)
 
--- a turn of a loop over all
+-- a turn of a loop over all numbers
 pub gather-next : (held : ℕ) (tickets : List ℕ) (n stray r : ℕ) → eqb stray 0 ≡ every n (ticketFits held tickets) → r ≡ gatherStray stray (member held n) (getD tickets n 0)
     → eqb r 0 ≡ every (suc n) (ticketFits held tickets)
 unfolding every
 gather-next held tickets n stray r inv q =
     ap (λ (x : ℕ). eqb x 0) q ∙ gathered held tickets n stray ∙ ap (λ (b : Bool). ticketFits held tickets n && b) inv
 
--- a turn of the loop over eight
+-- a turn of the loop over eight numbers
 pub gather-turn : (held : ℕ) (tickets : List ℕ) (p j ones eight r : ℕ) → j < 8 → eight ≡ held / 2 ^ p % 256 → eqb ones 0 ≡ every (p + j) (ticketFits held tickets)
     → r ≡ gatherStray ones (member eight j) (getD tickets (p + j) 0) → eqb r 0 ≡ every (p + (j + 1)) (ticketFits held tickets)
 gather-turn held tickets p j ones eight r h e inv q =

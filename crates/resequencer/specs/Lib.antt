@@ -1,4 +1,4 @@
--- What the contracts of `resequencer` cite.
+-- The definitions that the contracts of `resequencer` cite.
 pub mod State
 pub mod Events
 pub mod Parts

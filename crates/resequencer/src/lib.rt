@@ -1,4 +1,7 @@
-// The resequencer (document 01, "The resequencer").
+// The resequencer (document 01, "The resequencer"): it hands packets on in the order of their link
+// sequence number SN, which wraps at 64. Each event takes the state by value and returns the next
+// one. `Numbers` decides what an event does to NESN, HSNR and the two sets; `Resequencer` adds the
+// tickets.
 ghost use mathlib.Core.Path.{_≡_};
 ghost use mathlib.Core.Bool.{true};
 ghost use mathlib.Core.List.{[], _++_};
@@ -10,17 +13,19 @@ ghost use Rattle.refusal.specs.declared.Refusal.the-variants.{NotInOrder};
 ghost use Rattle.sequence.specs.Numbers.{link};
 ghost use Rattle.wordset.specs.Sets.{member, every};
 ghost use Rattle.resequencer.specs.declared.Outcome.the-variants.{Held};
-ghost use Rattle.resequencer.specs.State.{freshState, goodOrder};
+ghost use Rattle.resequencer.specs.State.{freshState, inOrder};
 ghost use Rattle.resequencer.specs.Events.{outcomeNumber, plain, places, handOn, advance, startsClock, hold, takeArrival, arriveVerdict, arriveOf, takeClockEnd, clockEndVerdict, clockEndOf};
-ghost use Rattle.resequencer.specs.Parts.{windowInOrder, hsnrInOrder, ticketFits, gatherStray, passedNumbers, ticketsLeft, hsnrLeft, arrivedTickets, ticketsFrom};
+ghost use Rattle.resequencer.specs.Parts.{windowInOrder, hsnrInOrder, ticketFits, gatherStray, passedNumbers, ticketsLeft, hsnrLeft, arrivedTickets, heldTicketsFrom};
 ghost use Rattle.resequencer.specs.Numbers.{numbersOf, bare, numbersInOrder, stepBy, arriveStep, clockEndStep, StepFits, stepAnswer};
 use refusal::Refusal;
 use refusal::Verdict;
 use sequence::LinkNumber;
 use wordset::set64;
 
-// NESN, the next number expected; HSNR; the numbers held and those whose clock runs, each a set with one bit for each sequence number; the
-// ticket of each number held.
+// The state. `nesn` is the next number expected. Bit n of `held` is 1 exactly if number n is held,
+// and bit n of `clocks` exactly if its clock runs. `tickets[n]` is the ticket of the held number n.
+// In good order `hsnr` is the held number furthest from NESN, or 0 if nothing is held, and the
+// tickets of numbers not held are 0.
 pub struct Resequencer {
     pub nesn: LinkNumber,
     pub hsnr: LinkNumber,
@@ -29,7 +34,7 @@ pub struct Resequencer {
     pub tickets: [u16; 64],
 }
 
-// What became of an arrival or a clock end.
+// What happened on an arrival or a clock end. A clock end gives `HandedOn` or `Refused`.
 pub enum Outcome {
     Held,
     HandedOn,
@@ -38,7 +43,9 @@ pub enum Outcome {
     Refused(Refusal),
 }
 
-// The outcome, the tickets handed on, `count` of them in order and then zeros, and the state after it.
+// The answer to an arrival or a clock end: the outcome, the tickets handed on and the next state.
+// The first `count` places of `tickets` are the tickets handed on, in order; the other places are
+// 0.
 pub struct Answer {
     pub outcome: Outcome,
     pub count: u8,
@@ -46,7 +53,9 @@ pub struct Answer {
     pub next: Resequencer,
 }
 
-// A state without its tickets: what the rules about numbers go by, also for callers that keep the tickets elsewhere.
+// A state without its tickets. `Resequencer` decides each event on it. It is public, with its
+// calls, for `resequencer_bytes`, which keeps the tickets in lent bytes; it is not meant for other
+// callers and is part of no promise to users.
 pub struct Numbers {
     pub nesn: LinkNumber,
     pub hsnr: LinkNumber,
@@ -54,7 +63,9 @@ pub struct Numbers {
     pub clocks: u64,
 }
 
-// What an arrival or a clock end does to the numbers: the outcome, the numbers after it, and how many NESN passes.
+// What an arrival or a clock end does to a `Numbers`: the outcome, the next `Numbers`, and by how
+// much NESN went up (`passed`). Public for `resequencer_bytes`, as `Numbers` is; not meant for
+// other callers.
 pub struct Step {
     pub outcome: Outcome,
     pub next: Numbers,
@@ -62,7 +73,7 @@ pub struct Step {
 }
 
 impl Outcome {
-    // The number of document 01's table: 0 where the call was not refused.
+    // The refusal number of document 01, 0 if the call was not refused.
     pub fn number(self) -> u8
         ensures { λ r. ⌜ r ≡ outcomeNumber self ⌝ }
     {
@@ -76,16 +87,19 @@ impl Outcome {
     }
 }
 
-// Whether the sets fit the window, by whole words: h and c are the held numbers and the clocks turned down by NESN, so that a place is a
-// distance from it. Held at 1 to 31, so that h is even and below 2 to the 32; clocks on held numbers, none on neighbours.
+// Whether the two sets meet the clauses of good order that concern them alone, tested on whole
+// words. `h` and `c` are the held set and the clock set rotated so that bit d is the number at
+// distance d from NESN. Held numbers are at distance 1 to 31, which means that `h` is even and
+// below 2^32; every clock is on a held number; no two clocks are on neighbours.
 fn window_in_order(h: u64, c: u64) -> bool
     ensures { λ r. ⌜ r ≡ windowInOrder h c ⌝ }
 {
     h % 2 == 0 && (h < 4294967296 && (set64::difference(c, h) == 0 && c & (c << 1) == 0))
 }
 
-// Whether HSNR, at distance e, fits the same sets: 0 where nothing is held, else the furthest held number, with a clock in the unbroken run
-// of held numbers down from it. There is one exactly if the sum of the two words carries out of HSNR's place.
+// Whether HSNR, at distance `e` from NESN, meets the clauses of good order: HSNR is 0 if nothing is
+// held; else it is the furthest held number, and a clock runs in the unbroken run of held numbers
+// that ends at it. Such a clock exists exactly if adding `h` and `c` carries out of bit `e`.
 fn hsnr_in_order(h: u64, c: u64, e: u8, hsnr: LinkNumber) -> bool
     requires { ⌜ (e < 64) × (h + c < 2 ^ 64) ⌝ }
     ensures { λ r. ⌜ r ≡ hsnrInOrder h c e (hsnr .0) ⌝ }
@@ -97,14 +111,17 @@ fn hsnr_in_order(h: u64, c: u64, e: u8, hsnr: LinkNumber) -> bool
     }
 }
 
-// The ones of stray tickets, those of numbers not held, with one ticket more.
+// Adds one ticket to `stray`, the bitwise or of the tickets so far whose number is not held; in
+// good order it stays 0. Public for `resequencer_bytes`, which makes the same test on lent bytes;
+// not meant for other callers.
 pub fn gather_stray(stray: u16, held: bool, ticket: u16) -> u16
     ensures { λ r. ⌜ r ≡ gatherStray stray held ticket ⌝ }
 {
     if held { stray } else { stray | ticket }
 }
 
-// The same with the tickets of the eight numbers from p on; a machine with wide words does eight at once.
+// Adds the tickets of the eight numbers starting at `p` to `stray`. In blocks of eight, so that the
+// compiler can use vector instructions.
 fn gather_eight(stray: u16, held: u64, tickets: &[u16; 64], p: usize) -> u16
     requires { ⌜ (p ≤ 56) × (eqb stray 0 ≡ every p (ticketFits held (now tickets))) ⌝ }
     ensures { λ r. ⌜ eqb r 0 ≡ every (p + 8) (ticketFits held (now (tickets .entry))) ⌝ }
@@ -132,7 +149,7 @@ fn tickets_in_order(held: u64, tickets: &[u16; 64]) -> bool
     stray == 0
 }
 
-// The set of the m numbers from NESN on.
+// The set of the `m` numbers starting at NESN.
 fn passed_numbers(nesn: u8, m: u8) -> u64
     requires { ⌜ (nesn < 64) × (m < 64) ⌝ }
     ensures { λ r. ⌜ r ≡ passedNumbers nesn m ⌝ }
@@ -140,7 +157,7 @@ fn passed_numbers(nesn: u8, m: u8) -> u64
     set64::rotate((1u64 << m) - 1, 64 - nesn)
 }
 
-// Puts 0 for the tickets of the m numbers from NESN on.
+// Sets the tickets of the `m` numbers starting at NESN to 0.
 fn clear_passed(tickets: &mut [u16; 64], nesn: u8, m: u8)
     requires { ⌜ (nesn < 64) × ((m < 64) × (length (now tickets) ≡ 64)) ⌝ }
     ensures { λ _. ⌜ now (tickets .exit) ≡ ticketsLeft (now (tickets .entry)) nesn m ⌝ }
@@ -151,8 +168,9 @@ fn clear_passed(tickets: &mut [u16; 64], nesn: u8, m: u8)
     }
 }
 
-// Gathers into `out`, all 0 so far, the tickets of those numbers that are held among the m from the start on, in window order; where d is 1,
-// after the ticket of the packet that has just arrived. The answer is how many there are.
+// Writes the tickets to be handed on to `out`, which is all 0 before, and returns their count. They
+// are `ticket`, the one of the packet that has just arrived, if `d` is 1, and then those of the
+// held numbers among the `m` numbers starting at `start`, in window order.
 fn gather_held(
     out: &mut [u16; 32],
     held: u64,
@@ -163,8 +181,8 @@ fn gather_held(
     m: u8,
 ) -> u8
     requires { ⌜ (now out ≡ replicate 32 0) × ((start ≤ 64) × ((d ≤ 1) × ((d + m ≤ 32) × (d ≡ 0 → ticket ≡ 0)))) ⌝ }
-    ensures { λ r. ⌜ r ≡ length (arrivedTickets d ticket ++ ticketsFrom held (now (tickets .entry)) start m) ⌝ }
-    ensures { λ _. ⌜ now (out .exit) ≡ places (arrivedTickets d ticket ++ ticketsFrom held (now (tickets .entry)) start m) ⌝ }
+    ensures { λ r. ⌜ r ≡ length (arrivedTickets d ticket ++ heldTicketsFrom held (now (tickets .entry)) start m) ⌝ }
+    ensures { λ _. ⌜ now (out .exit) ≡ places (arrivedTickets d ticket ++ heldTicketsFrom held (now (tickets .entry)) start m) ⌝ }
 {
     out[0] = ticket;
     let mut count = d;
@@ -180,7 +198,7 @@ fn gather_held(
     count
 }
 
-// HSNR once numbers are passed: 0 when nothing is left held.
+// HSNR after NESN has moved on: 0 if nothing is left in `held`, else unchanged.
 fn hsnr_left(held: u64, hsnr: LinkNumber) -> LinkNumber
     ensures { λ r. ⌜ r ≡ hsnrLeft held hsnr ⌝ }
 {
@@ -188,7 +206,7 @@ fn hsnr_left(held: u64, hsnr: LinkNumber) -> LinkNumber
 }
 
 impl Numbers {
-    // Whether the numbers are in good order, with tickets that fit them.
+    // Whether every clause of good order holds that does not concern the tickets.
     pub fn in_order(self) -> bool
         ensures { λ r. ⌜ r ≡ numbersInOrder self ⌝ }
     {
@@ -215,7 +233,7 @@ impl Numbers {
         }
     }
 
-    // NESN goes up by m: the numbers passed are no longer held and their clocks stop.
+    // NESN goes up by `m`. The `m` numbers passed are no longer held and their clocks stop.
     fn advance(self, m: u8) -> Numbers
         requires { ⌜ (self .nesn .0 < 64) × (m < 64) ⌝ }
         ensures { λ r. ⌜ r ≡ numbersOf (advance (bare self) m) ⌝ }
@@ -233,7 +251,7 @@ impl Numbers {
         }
     }
 
-    // The step that passes m numbers.
+    // The step that hands on: NESN goes up by `m`.
     fn pass(self, m: u8) -> Step
         requires { ⌜ (self .nesn .0 < 64) × (m < 64) ⌝ }
         ensures { λ r. ⌜ r ≡ stepBy self (handOn [] (advance (bare self) m)) ⌝ }
@@ -245,7 +263,8 @@ impl Numbers {
         }
     }
 
-    // Whether a clock starts for a number that is to be held: none runs, or the number is further than HSNR + 1.
+    // Whether holding `sn` starts a clock: no clock runs, or `sn` is further from NESN than HSNR +
+    // 1.
     fn starts_clock(self, sn: LinkNumber) -> bool
         ensures { λ r. ⌜ r ≡ startsClock (bare self) (sn .0) ⌝ }
     {
@@ -254,7 +273,7 @@ impl Numbers {
         self.clocks == 0 || nesn.distance_to(hsnr) + 1 < nesn.distance_to(sn)
     }
 
-    // HSNR once a number is held: that number where it starts a clock or follows HSNR.
+    // HSNR after `sn` is held: `sn` if it starts a clock or is HSNR + 1, else unchanged.
     fn hsnr_with(self, sn: LinkNumber) -> LinkNumber
         ensures { λ r. ⌜ r ≡ hold (bare self) (sn .0) 0 .hsnr ⌝ }
     {
@@ -269,7 +288,7 @@ impl Numbers {
         }
     }
 
-    // The clocks once a number is held.
+    // The clock set after `sn` is held.
     fn clocks_with(self, sn: LinkNumber) -> u64
         ensures { λ r. ⌜ r ≡ hold (bare self) (sn .0) 0 .clocks ⌝ }
     {
@@ -280,7 +299,7 @@ impl Numbers {
         }
     }
 
-    // The step that holds a number.
+    // The step that holds `sn`.
     fn hold(self, sn: LinkNumber) -> Step
         ensures { λ r. ⌜ r ≡ stepBy self (plain Held (hold (bare self) (sn .0) 0)) ⌝ }
     {
@@ -300,7 +319,8 @@ impl Numbers {
         }
     }
 
-    // Whether an arrival may be taken, checked in the order 14, 1.
+    // Whether an arrival of `sn` is refused: 14 if the state is not in good order, then 1 if `sn`
+    // is over 63. `fits` is whether the tickets of numbers not held are all 0.
     fn check_arrive(self, fits: bool, sn: LinkNumber) -> Verdict
         ensures { λ r. ⌜ r ≡ check fits NotInOrder (arriveVerdict (bare self) (sn .0)) ⌝ }
     {
@@ -315,7 +335,7 @@ impl Numbers {
         }
     }
 
-    // What an arrival does that is not refused.
+    // The step of an arrival that is not refused.
     fn take_arrival(self, sn: LinkNumber) -> Step
         requires { ⌜ (numbersInOrder self ≡ true) × (sn .0 < 64) ⌝ }
         ensures { λ r. ⌜ r ≡ stepBy self (takeArrival (bare self) (sn .0) 0) ⌝ }
@@ -334,7 +354,8 @@ impl Numbers {
         }
     }
 
-    // A packet arrives: what this does to the numbers. `fits` tells whether the tickets fit them: those of numbers not held are 0.
+    // The step of an arrival of `sn`. `fits` is whether the tickets of numbers not held are all 0;
+    // the caller, who keeps the tickets, tests this.
     pub fn arrive(self, fits: bool, sn: LinkNumber) -> Step
         ensures { λ r. ⌜ r ≡ arriveStep fits self (sn .0) ⌝ }
     {
@@ -345,7 +366,8 @@ impl Numbers {
         }
     }
 
-    // Whether the end of a clock may be taken, checked in the order 14, 1, 7.
+    // Whether a clock end of `sn` is refused: 14 if the state is not in good order, then 1 if `sn`
+    // is over 63, then 7 if no clock runs for it.
     fn check_clock_end(self, fits: bool, sn: LinkNumber) -> Verdict
         ensures { λ r. ⌜ r ≡ check fits NotInOrder (clockEndVerdict (bare self) (sn .0)) ⌝ }
     {
@@ -364,7 +386,8 @@ impl Numbers {
         }
     }
 
-    // What the end of a running clock does: NESN goes to the first number after it that is not held.
+    // The step of a clock end that is not refused: NESN becomes the first number after `sn` that is
+    // not held.
     fn take_clock_end(self, sn: LinkNumber) -> Step
         requires { ⌜ (numbersInOrder self ≡ true) × ((sn .0 < 64) × (member (self .clocks) (sn .0) ≡ true)) ⌝ }
         ensures { λ r. ⌜ r ≡ stepBy self (takeClockEnd (bare self) (sn .0)) ⌝ }
@@ -375,7 +398,7 @@ impl Numbers {
         self.pass(nesn.distance_to(sn) + 1 + run)
     }
 
-    // The clock of a number ends: what this does to the numbers.
+    // The step of a clock end of `sn`. `fits` as for `arrive`.
     pub fn clock_end(self, fits: bool, sn: LinkNumber) -> Step
         ensures { λ r. ⌜ r ≡ clockEndStep fits self (sn .0) ⌝ }
     {
@@ -388,7 +411,7 @@ impl Numbers {
 }
 
 impl Resequencer {
-    // A state to which nothing has come.
+    // The fresh state: nothing has arrived yet, and every field is 0.
     pub fn fresh() -> Resequencer
         ensures { λ r. ⌜ r ≡ freshState ⌝ }
     {
@@ -401,7 +424,7 @@ impl Resequencer {
         }
     }
 
-    // The state without its tickets.
+    // The state without its tickets, for the calls of this crate; not meant for other callers.
     pub fn numbers(self) -> Numbers
         ensures { λ r. ⌜ r ≡ numbersOf self ⌝ }
     {
@@ -415,15 +438,18 @@ impl Resequencer {
         }
     }
 
-    // Whether the state is in good order: whoever can write its fields can damage it.
+    // Whether the state is in good order. The fields are public, so a caller can damage a state;
+    // `arrive` and `clock_end` refuse a damaged state with 14.
     pub fn in_order(self) -> bool
-        ensures { λ r. ⌜ r ≡ goodOrder self ⌝ }
+        ensures { λ r. ⌜ r ≡ inOrder self ⌝ }
     {
         let tickets = self.tickets;
         tickets_in_order(self.held, &tickets) && self.numbers().in_order()
     }
 
-    // The answer that a step makes of this state; d is 1 where the packet's own ticket goes on first, and 0 for the end of a clock.
+    // The answer that `step` gives in this state: moves the tickets. For an arrival `d` is 1, and
+    // `ticket`, the packet's own, is handed on first or held at `sn`; for a clock end `d` and
+    // `ticket` are 0.
     fn answer(self, step: Step, d: u8, sn: LinkNumber, ticket: u16) -> Answer
         requires { ⌜ StepFits (self .nesn .0) step d (sn .0) ticket ⌝ }
         ensures { λ r. ⌜ r ≡ stepAnswer self step d (sn .0) ticket ⌝ }
@@ -470,7 +496,9 @@ impl Resequencer {
         }
     }
 
-    // A packet arrives: what becomes of it, the tickets that it lets go, and the state after it.
+    // A packet with the sequence number `sn` arrives. It is held, handed on with the held packets
+    // that follow it unbroken, dropped as old or duplicate, or refused: 14 if the state is not in
+    // good order, 1 if `sn` is over 63.
     pub fn arrive(self, sn: LinkNumber, ticket: u16) -> Answer
         ensures { λ r. ⌜ r ≡ arriveOf self (sn .0) ticket ⌝ }
     {
@@ -480,7 +508,9 @@ impl Resequencer {
         self.answer(step, 1, sn, ticket)
     }
 
-    // The clock of a number ends: the tickets that this lets go, and the state after it.
+    // The clock of `sn` ends: the missing numbers before `sn` are given up, and all held packets
+    // before the first number after `sn` that is not held are handed on. Refused: 14 if the state
+    // is not in good order, 1 if `sn` is over 63, 7 if no clock runs for `sn`.
     pub fn clock_end(self, sn: LinkNumber) -> Answer
         ensures { λ r. ⌜ r ≡ clockEndOf self (sn .0) ⌝ }
     {

@@ -1,4 +1,4 @@
--- What the calls write and answer, by the tests on the way.
+-- What the calls write and return, case by case: the premises are the tests that the code makes.
 -- Assumes nothing.
 use mathlib.Core.Path.{_≡_, refl, sym, ap, ap₂, _∙_, subst}
 use mathlib.Core.Bool.{Bool, true, false, cond, _&&_}
@@ -22,30 +22,30 @@ use Rattle.resequencer.specs.declared.Step.{Step}
 use Rattle.resequencer.specs.declared.Outcome.{Outcome}
 use Rattle.resequencer.specs.declared.Outcome.the-variants.{Refused}
 use Rattle.resequencer.specs.declared.Answer.{Answer}
-use Rattle.resequencer.specs.State.{freshState, goodOrder}
+use Rattle.resequencer.specs.State.{freshState, inOrder}
 use Rattle.resequencer.specs.Events.{outcomeNumber, plain, places, heldTickets, arriveOf, clockEndOf}
-use Rattle.resequencer.specs.Parts.{ticketFits, ticketsLeft, arrivedTickets, ticketsFrom}
+use Rattle.resequencer.specs.Parts.{ticketFits, ticketsLeft, arrivedTickets, heldTicketsFrom}
 use Rattle.resequencer.specs.Numbers.{numbersOf, handsOn, holds, stepTickets, stepState, stepAnswer}
 use Rattle.resequencer.proofs.Order.{in-order}
 use Rattle.resequencer.proofs.Handing.{held-from}
 use Rattle.resequencer.proofs.Refusing.{refusals-change-nothing}
-use Rattle.resequencer_bytes.specs.Stored.{isCall, stateIn, stateBytes, outcomeKind, answerCode, codeBy, bytesBy, ticketsBy, freshCode, freshBytes, orderCode}
+use Rattle.resequencer_bytes.specs.Stored.{isCall, stateIn, stateBytes, outcomeKind, packedAnswer, answerBy, bytesBy, ticketsBy, freshAnswer, freshBytes, orderAnswer}
 use Rattle.resequencer_bytes.specs.Parts.{ticketsIn, withNumbers, withTickets}
 use Rattle.resequencer_bytes.proofs.Writing.{tickets-same, ticket-written, state-made}
 use Rattle.resequencer_bytes.proofs.Stored.{written-back}
 
--- ---- what good order says of the tickets in their bytes
+-- ---- good order and the tickets in their bytes
 
-module _ (b : List ℕ) (g : goodOrder (stateIn b) ≡ true) where
+module _ (b : List ℕ) (g : inOrder (stateIn b) ≡ true) where
   pub nesn-low : stateIn b .nesn .0 < 64
   nesn-low = in-order (stateIn b) g .nesn-lt
 
-  -- a number that is not held has none
+  -- the ticket of a number that is not held is 0
   pub bare-ticket : (n : ℕ) (r : Bool) → n < 64 → r ≡ member (stateIn b .held) n → r ≡ false → getD (ticketsIn (drop 18 b)) n 0 ≡ 0
   unfolding stateIn
   bare-ticket n r h e f = in-order (stateIn b) g .tickets n h (sym e ∙ f)
 
-  -- NESN has none
+  -- the ticket of NESN is 0
   pub nesn-bare : getD (ticketsIn (drop 18 b)) (stateIn b .nesn .0) 0 ≡ 0
   nesn-bare = go (member (stateIn b .held) (stateIn b .nesn .0)) refl
     where
@@ -57,9 +57,9 @@ module _ (b : List ℕ) (g : goodOrder (stateIn b) ≡ true) where
       go true e =
           absurd (omega (arith, in-order (stateIn b) g .window 0 (lit< tt) (ap (member (stateIn b .held)) here ∙ e) .0))
 
--- ---- the tickets as a step moves them
+-- ---- the tickets that a step moves, for each outcome
 
--- all that is behind the numbers
+-- the 128 bytes of the tickets are all bytes after the first 18
 behind : (b : List ℕ) → length b ≡ 146 → take 128 (drop 18 b) ≡ drop 18 b
 behind b l = take-all 128 (drop 18 b) (omega (arith, length-drop 18 b))
 
@@ -87,14 +87,14 @@ module _ (b : List ℕ) (step : Step) (d n ticket : ℕ) where
       )
 
   pub moved-on : (m : Numbers) (count : ℕ) (out x : List ℕ) → m ≡ numbersOf (stateIn b) → handsOn (step .outcome) ≡ true → d ≤ step .passed
-      → count ≡ length (arrivedTickets d ticket ++ ticketsFrom (m .held) (ticketsIn (drop 18 b)) (m .nesn .0 + d) (step .passed - d))
-      → out ≡ places (arrivedTickets d ticket ++ ticketsFrom (m .held) (ticketsIn (drop 18 b)) (m .nesn .0 + d) (step .passed - d))
+      → count ≡ length (arrivedTickets d ticket ++ heldTicketsFrom (m .held) (ticketsIn (drop 18 b)) (m .nesn .0 + d) (step .passed - d))
+      → out ≡ places (arrivedTickets d ticket ++ heldTicketsFrom (m .held) (ticketsIn (drop 18 b)) (m .nesn .0 + d) (step .passed - d))
       → x ≡ withTickets b (ticketsLeft (ticketsIn (drop 18 b)) (stateIn b .nesn .0) (d + (step .passed - d)))
       → Moved b step d n ticket count out x
   unfolding stateIn
   moved-on m count out x e h least c o y =
-      let t : ticketsFrom (m .held) (ticketsIn (drop 18 b)) (m .nesn .0 + d) (step .passed - d) ≡ heldTickets (stateIn b) d (step .passed - d) =
-      ap (λ (q : Numbers). ticketsFrom (q .held) (ticketsIn (drop 18 b)) (q .nesn .0 + d) (step .passed - d)) e ∙ held-from (stateIn b) d (step .passed - d) in
+      let t : heldTicketsFrom (m .held) (ticketsIn (drop 18 b)) (m .nesn .0 + d) (step .passed - d) ≡ heldTickets (stateIn b) d (step .passed - d) =
+      ap (λ (q : Numbers). heldTicketsFrom (q .held) (ticketsIn (drop 18 b)) (q .nesn .0 + d) (step .passed - d)) e ∙ held-from (stateIn b) d (step .passed - d) in
       let z : d + (step .passed - d) ≡ step .passed = omega arith in
       by-outcome true (holds (step .outcome)) count out x h refl
       (c ∙ ap (λ (q : List ℕ). length (arrivedTickets d ticket ++ q)) t)
@@ -113,23 +113,23 @@ module _ (b : List ℕ) (step : Step) (d n ticket : ℕ) where
 
 -- ---- an answer
 
--- the numbers written over themselves
+-- writing the same numbers again changes no byte
 numbers-same : (b : List ℕ) → length b ≡ 146 → Below 256 b → b ≡ withNumbers b (numbersOf (stateIn b))
 unfolding stateIn
 numbers-same b l low = sym (state-made b b (stateIn b) l (tickets-same b l low) ∙ written-back b l low)
 
--- what a step answers, the bytes and the places after it
+-- the number that a step returns (r), and the bytes (y) and places (out) after it
 abbrev Ends : List ℕ → Step → ℕ → ℕ → ℕ → List ℕ → ℕ → List ℕ → List ℕ → Type 0
 Ends b step d n ticket out₀ r y out =
-    (r ≡ answerCode (stepAnswer (stateIn b) step d n ticket))
+    (r ≡ packedAnswer (stepAnswer (stateIn b) step d n ticket))
     × ((y ≡ cond (eqb (outcomeNumber (step .outcome)) 0) (stateBytes (stepState (stateIn b) step n ticket)) b)
     × (out ≡ cond (eqb (outcomeNumber (step .outcome)) 0) (places (stepTickets (stateIn b) step d ticket)) out₀))
 
 module _ (b : List ℕ) (step : Step) (d n ticket : ℕ) (out₀ : List ℕ) (l : length b ≡ 146) where
-  -- the tickets moved, the numbers written and the outcome told
+  -- a step that is not refused: the tickets are moved and the numbers written
   pub taken : (o : Outcome) → step .outcome ≡ o → outcomeNumber o ≡ 0 → (r count : ℕ) (out x y : List ℕ) → r ≡ 256 * outcomeKind o + 65536 * count
       → Moved b step d n ticket count out x → y ≡ withNumbers x (step .next) → Ends b step d n ticket out₀ r y out
-  unfolding answerCode stepAnswer stepState
+  unfolding packedAnswer stepAnswer stepState
   taken o e z r count out x y q moved p =
       let number : outcomeNumber (step .outcome) ≡ 0 = ap outcomeNumber e ∙ z in
       let kind : outcomeKind (step .outcome) ≡ outcomeKind o = ap outcomeKind e in
@@ -142,16 +142,16 @@ module _ (b : List ℕ) (step : Step) (d n ticket : ℕ) (out₀ : List ℕ) (l 
         ),
       )
 
-  -- a packet dropped: only the places are written
+  -- a packet is dropped: only the places are written
   pub dropped : (o : Outcome) → step .outcome ≡ o → outcomeNumber o ≡ 0 → handsOn o ≡ false → holds o ≡ false → step .next ≡ numbersOf (stateIn b) → Below 256 b
       → (r : ℕ) (out : List ℕ) → r ≡ 256 * outcomeKind o → out ≡ replicate 32 0 → Ends b step d n ticket out₀ r b out
   dropped o e z h k same low r out q p =
       taken o e z r 0 out b b (omega (arith, q)) (moved-none b step d n ticket out l low (ap handsOn e ∙ h) (ap holds e ∙ k) p)
       (numbers-same b l low ∙ ap (withNumbers b) (sym same))
 
-  -- a refusal is its number, and nothing is written
+  -- a refusal returns its number and writes nothing
   pub refused : (why : Refusal) → step .outcome ≡ Refused why → (r : ℕ) → r ≡ numberOf why → Ends b step d n ticket out₀ r b out₀
-  unfolding answerCode stepAnswer stepTickets
+  unfolding packedAnswer stepAnswer stepTickets
   refused why e r q =
       let f : eqb (outcomeNumber (step .outcome)) 0 ≡ false = ap (λ (o : Outcome). eqb (outcomeNumber o) 0) e ∙ ne-eqb (numberOf why) 0 (λ (z : numberOf why ≡ 0). absurd (omega (arith, number-range why .0))) in
       let z : numberOf why ≡ numberOf why + 256 * 0 + 65536 * 0 = omega arith in (
@@ -162,16 +162,16 @@ module _ (b : List ℕ) (step : Step) (d n ticket : ℕ) (out₀ : List ℕ) (l 
         ),
       )
 
--- ---- a call: what it answers, the bytes and the places after it
+-- ---- a call: the number returned, and the bytes and places after it
 
 abbrev After : Bool → Answer → List ℕ → List ℕ → ℕ → List ℕ → List ℕ → Type 0
-After call a b out r b′ out′ = (r ≡ codeBy call a) × ((b′ ≡ bytesBy call a b) × (out′ ≡ ticketsBy call a out))
+After call a b out r b′ out′ = (r ≡ answerBy call a) × ((b′ ≡ bytesBy call a b) × (out′ ≡ ticketsBy call a out))
 
 abbrev pub Results : Answer → List ℕ → List ℕ → ℕ → List ℕ → List ℕ → Type 0
 Results a b out r b′ out′ = After (isCall b (length out)) a b out r b′ out′
 
 no-call : (a : Answer) (b out : List ℕ) → isCall b (length out) ≡ false → Results a b out 14 b out
-unfolding codeBy bytesBy ticketsBy
+unfolding answerBy bytesBy ticketsBy
 no-call a b out e = subst (λ (call : Bool). After call a b out 14 b out) (sym e) (refl, (refl, refl))
 
 pub no-state : (a : Answer) (b out : List ℕ) → length b ≢ 146 → Results a b out 14 b out
@@ -180,7 +180,7 @@ no-state a b out h = no-call a b out (ap (λ (x : Bool). x && eqb (length out) 3
 pub no-places : (a : Answer) (b out : List ℕ) → length b ≡ 146 → length out ≢ 32 → Results a b out 14 b out
 no-places a b out h k = no-call a b out (ap₂ (λ (x y : Bool). x && y) (eq-eqb (length b) 146 h) (ne-eqb (length out) 32 k))
 
--- a refusal leaves the state
+-- a refused answer has the same state
 abbrev pub Stays : Resequencer → Answer → Type 0
 Stays s a = outcomeNumber (a .outcome) ≢ 0 → a .next ≡ s
 
@@ -194,13 +194,13 @@ end-stays s n h = ap (λ (a : Answer). a .next) (refusals-change-nothing .clock-
 
 abbrev pub Written : Answer → List ℕ → List ℕ → ℕ → List ℕ → List ℕ → Type 0
 Written a b out r b′ out′ =
-    (r ≡ answerCode a)
+    (r ≡ packedAnswer a)
     × ((b′ ≡ cond (eqb (outcomeNumber (a .outcome)) 0) (stateBytes (a .next)) b)
     × (out′ ≡ cond (eqb (outcomeNumber (a .outcome)) 0) (a .tickets) out))
 
 pub done : (a c : Answer) (b out : List ℕ) (r : ℕ) (b′ out′ : List ℕ) → length b ≡ 146 → length out ≡ 32 → Below 256 b → a ≡ c → Stays (stateIn b) c
     → Written a b out r b′ out′ → Results c b out r b′ out′
-unfolding codeBy bytesBy ticketsBy
+unfolding answerBy bytesBy ticketsBy
 done a c b out r b′ out′ lb lo low e stays written =
     let w = subst (λ (x : Answer). Written x b out r b′ out′) e written in
     subst (λ (call : Bool). After call c b out r b′ out′) (sym (ap₂ (λ (x y : Bool). x && y) (eq-eqb (length b) 146 lb) (eq-eqb (length out) 32 lo)))
@@ -210,16 +210,16 @@ done a c b out r b′ out′ lb lo low e stays written =
     bytes true q = refl
     bytes false q = sym (ap stateBytes (stays (eqb-false (outcomeNumber (c .outcome)) 0 q)) ∙ written-back b lb low)
 
--- the answer that a step makes
+-- the answer of a step, as `answer` promises it
 pub as-written : (s : Resequencer) (step : Step) (d n ticket : ℕ) (b out : List ℕ) (r : ℕ) (b′ out′ : List ℕ)
-    → (r ≡ answerCode (stepAnswer s step d n ticket))
+    → (r ≡ packedAnswer (stepAnswer s step d n ticket))
     × ((b′ ≡ cond (eqb (outcomeNumber (step .outcome)) 0) (stateBytes (stepState s step n ticket)) b)
     × (out′ ≡ cond (eqb (outcomeNumber (step .outcome)) 0) (places (stepTickets s step d ticket)) out))
     → Written (stepAnswer s step d n ticket) b out r b′ out′
 unfolding stepAnswer
 as-written s step d n ticket b out r b′ out′ w = w
 
--- the tickets in their bytes, as the code looks at them
+-- the code's test of the tickets in their bytes is the test of the state's tickets
 pub stored-fit : (b : List ℕ) (held : ℕ) (fits : Bool) → length b ≡ 146 → held ≡ littleOf (take 8 (drop 2 b)) → fits ≡ every 64 (ticketFits held (ticketsIn (take 128 (drop 18 b))))
     → fits ≡ every 64 (ticketFits (stateIn b .held) (stateIn b .tickets))
 unfolding stateIn
@@ -227,24 +227,24 @@ stored-fit b held fits l e f = f ∙ ap₂ (λ (h : ℕ) (r : List ℕ). every 6
 
 -- ---- good order
 
-pub order-none : (b : List ℕ) → length b ≢ 146 → 0 ≡ orderCode b
-unfolding orderCode
+pub order-none : (b : List ℕ) → length b ≢ 146 → 0 ≡ orderAnswer b
+unfolding orderAnswer
 order-none b h = simp (ne-eqb (length b) 146 h)
 
-pub order-code : (b : List ℕ) (good : Bool) → length b ≡ 146 → good ≡ goodOrder (stateIn b) → digit good ≡ orderCode b
-unfolding orderCode
-order-code b good l g = ap digit g ∙ ap (λ (x : Bool). digit (x && goodOrder (stateIn b))) (sym (eq-eqb (length b) 146 l))
+pub order-code : (b : List ℕ) (good : Bool) → length b ≡ 146 → good ≡ inOrder (stateIn b) → digit good ≡ orderAnswer b
+unfolding orderAnswer
+order-code b good l g = ap digit g ∙ ap (λ (x : Bool). digit (x && inOrder (stateIn b))) (sym (eq-eqb (length b) 146 l))
 
 -- ---- a fresh state
 
-pub fresh-none : (b : List ℕ) → length b ≢ 146 → (14 ≡ freshCode b) × (b ≡ freshBytes b)
-unfolding freshCode freshBytes
+pub fresh-none : (b : List ℕ) → length b ≢ 146 → (14 ≡ freshAnswer b) × (b ≡ freshBytes b)
+unfolding freshAnswer freshBytes
 fresh-none b h = (simp (ne-eqb (length b) 146 h), simp (ne-eqb (length b) 146 h))
 
 pub fresh-zeros : replicate 146 0 ≡ stateBytes freshState
 unfolding stateBytes littleBytes listBytes
 fresh-zeros = refl
 
-pub fresh-done : (b x : List ℕ) → length b ≡ 146 → x ≡ stateBytes freshState → (0 ≡ freshCode b) × (x ≡ freshBytes b)
-unfolding freshCode freshBytes
+pub fresh-done : (b x : List ℕ) → length b ≡ 146 → x ≡ stateBytes freshState → (0 ≡ freshAnswer b) × (x ≡ freshBytes b)
+unfolding freshAnswer freshBytes
 fresh-done b x h e = (simp (eq-eqb (length b) 146 h), e ∙ simp (eq-eqb (length b) 146 h))

@@ -1,4 +1,5 @@
--- The claims of the stored state: each refusal's number fits a byte, and a refused call is told by the given state.
+-- The claims about the stored state. For refusals: each refusal number fits in a byte, and the
+-- definition returns the given state.
 -- Assumes nothing.
 use mathlib.Core.Path.{_≡_, refl, sym, ap, _∙_, subst}
 use mathlib.Core.Bool.{Bool, true, false, cond}
@@ -18,16 +19,16 @@ use Rattle.resequencer.specs.declared.Outcome.the-variants.{Held, HandedOn, Old
 use Rattle.resequencer.specs.declared.Answer.{Answer}
 use Rattle.resequencer.specs.Events.{outcomeNumber, plain, arriveOf, clockEndOf}
 use Rattle.resequencer.proofs.Refusing.{refusals-change-nothing as calls-change-nothing}
-use Rattle.resequencer_bytes.specs.Stored.{isState, isCall, stateIn, stateBytes, outcomeKind, answerCode, codeBy, bytesBy, ticketsBy}
-use Rattle.resequencer_bytes.specs.Claims.{StoredLaw, RefusalsChangeNothing}
+use Rattle.resequencer_bytes.specs.Stored.{isState, isCall, stateIn, stateBytes, outcomeKind, packedAnswer, answerBy, bytesBy, ticketsBy}
+use Rattle.resequencer_bytes.specs.Claims.{RoundTrips, RefusalsChangeNothing}
 use Rattle.resequencer_bytes.proofs.Stored.{state-back, written-back}
 
-pub stored-law : StoredLaw
-stored-law = record { read-back = state-back; written-back = written-back }
+pub round-trips : RoundTrips
+round-trips = record { read-back = state-back; written-back = written-back }
 
 -- ---- refusals
 
--- what is not refused has the lowest byte 0, and a plain refusal is its number
+-- if a call is not refused, the lowest byte is 0; if it is, the number returned is below 256
 low-byte : (o : Outcome) (k : ℕ) → outcomeNumber o ≡ 0 → (outcomeNumber o + 256 * outcomeKind o + 65536 * k) % 256 ≡ 0
 low-byte o k e = omega arith
 
@@ -38,18 +39,18 @@ refused-small Old h = absurd (h refl)
 refused-small Duplicate h = absurd (h refl)
 refused-small (Refused why) h = omega (arith, number-range why .1)
 
--- a refused answer is plain
+-- a refused answer hands nothing on and has the same state
 abbrev Plain : Resequencer → Answer → Type 0
 Plain s a = outcomeNumber (a .outcome) ≢ 0 → a ≡ plain (a .outcome) s
 
 abbrev Kept : Bool → Answer → List ℕ → List ℕ → Type 0
-Kept call a b out = (codeBy call a < 256) × (bytesBy call a b ≡ b) × (ticketsBy call a out ≡ out)
+Kept call a b out = (answerBy call a < 256) × (bytesBy call a b ≡ b) × (ticketsBy call a out ≡ out)
 
-kept : (a : Answer) (b out : List ℕ) → Below 256 b → Plain (stateIn b) a → codeBy (isCall b (length out)) a % 256 ≢ 0 → Kept (isCall b (length out)) a b out
-unfolding codeBy bytesBy ticketsBy answerCode
+kept : (a : Answer) (b out : List ℕ) → Below 256 b → Plain (stateIn b) a → answerBy (isCall b (length out)) a % 256 ≢ 0 → Kept (isCall b (length out)) a b out
+unfolding answerBy bytesBy ticketsBy packedAnswer
 kept a b out low p = go (isCall b (length out)) refl
   where
-    go : (call : Bool) → isCall b (length out) ≡ call → codeBy call a % 256 ≢ 0 → Kept call a b out
+    go : (call : Bool) → isCall b (length out) ≡ call → answerBy call a % 256 ≢ 0 → Kept call a b out
     go false e h = (lit< tt, refl, refl)
     go true e h =
         let refused : outcomeNumber (a .outcome) ≢ 0 = λ z. h (low-byte (a .outcome) (a .count) z) in

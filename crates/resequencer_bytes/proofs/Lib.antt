@@ -1,4 +1,4 @@
--- What is proved of the stored state.
+-- The laws and claims of the stored state.
 pub mod Reading
 pub mod Writing
 pub mod Stored

@@ -1,4 +1,5 @@
--- What a step tells of the state that it was taken from: tickets are handed on only in good order, and a packet that is dropped leaves the numbers.
+-- What follows from a step about the state before it: tickets are handed on only in good order, and
+-- a step that neither hands on nor holds leaves the numbers unchanged.
 -- Assumes nothing.
 use mathlib.Core.Path.{_≡_, refl, sym, ap, _∙_, subst}
 use mathlib.Core.Bool.{Bool, true, false, cond, false≢true}
@@ -14,26 +15,26 @@ use Rattle.resequencer.specs.declared.Resequencer.{Resequencer}
 use Rattle.resequencer.specs.declared.Numbers.{Numbers}
 use Rattle.resequencer.specs.declared.Step.{Step}
 use Rattle.resequencer.specs.declared.Outcome.the-variants.{Held, Old, Duplicate}
-use Rattle.resequencer.specs.State.{isHeld, ahead, goodOrder}
+use Rattle.resequencer.specs.State.{isHeld, ahead, inOrder}
 use Rattle.resequencer.specs.Events.{plain, handOn, hold, handOnRun, takeArrival, arriveVerdict, takeClockEnd, clockEndVerdict}
 use Rattle.resequencer.specs.Parts.{ticketFits}
 use Rattle.resequencer.specs.Numbers.{numbersOf, bare, handsOn, holds, stepBy, arriveStep, clockEndStep}
 use Rattle.resequencer.proofs.Steps.{order-told, arrive-taken, arrive-left, arrive-may, end-taken, end-left, end-may}
 
 abbrev pub Tells : Resequencer → Step → Type 0
-Tells s step = (handsOn (step .outcome) ≡ true → goodOrder s ≡ true) × (handsOn (step .outcome) ≡ false → holds (step .outcome) ≡ false → step .next ≡ numbersOf s)
+Tells s step = (handsOn (step .outcome) ≡ true → inOrder s ≡ true) × (handsOn (step .outcome) ≡ false → holds (step .outcome) ≡ false → step .next ≡ numbersOf s)
 
 module _ (s : Resequencer) (fits : Bool) (f : fits ≡ every 64 (ticketFits (s .held) (s .tickets))) where
   abbrev m : Numbers
   m = numbersOf s
 
-  good : (v : Verdict) → check fits NotInOrder v ≡ Done → goodOrder (bare m) ≡ true → goodOrder s ≡ true
-  good v e g = sym (order-told s fits (goodOrder (bare m)) f (check-done fits NotInOrder v e .0) refl) ∙ g
+  good : (v : Verdict) → check fits NotInOrder v ≡ Done → inOrder (bare m) ≡ true → inOrder s ≡ true
+  good v e g = sym (order-told s fits (inOrder (bare m)) f (check-done fits NotInOrder v e .0) refl) ∙ g
 
   arrive-tells : (n : ℕ) → Tells s (arriveStep fits m n)
   arrive-tells n = go (check fits NotInOrder (arriveVerdict (bare m) n)) refl
     where
-      taken : goodOrder s ≡ true → (a h z : Bool)
+      taken : inOrder s ≡ true → (a h z : Bool)
           → Tells s (stepBy m (cond a (plain Old (bare m)) (cond h (plain Duplicate (bare m)) (cond z (handOnRun (bare m) 0) (plain Held (hold (bare m) n 0))))))
       taken g true h z = unfold stepBy in unfold plain in (λ t. g, λ t u. refl)
       taken g false true z = unfold stepBy in unfold plain in (λ t. g, λ t u. refl)
@@ -57,7 +58,7 @@ module _ (s : Resequencer) (fits : Bool) (f : fits ≡ every 64 (ticketFits (s .
       go (Refused why) e =
           subst (Tells s) (end-left fits m n why e) (unfold stepBy in unfold plain in (λ t. absurd (false≢true t), λ t u. refl))
 
-  -- as the code takes a step: of numbers that are those of the state
+  -- the same for the code's step, made on the numbers k read from the state
   module _ (k : Numbers) (e : k ≡ numbersOf s) (n : ℕ) (step : Step) where
     pub arrival-tells : step ≡ arriveStep fits k n → Tells s step
     arrival-tells q = subst (Tells s) (sym (q ∙ ap (λ (x : Numbers). arriveStep fits x n) e)) (arrive-tells n)

@@ -1,4 +1,4 @@
--- A state and its bytes tell each other.
+-- A state written is read back the same, and bytes read are written back the same.
 -- Assumes nothing.
 use mathlib.Core.Path.{_≡_, sym, ap, ap₂, _∙_}
 use mathlib.Core.List.{List, _∷_, _++_}
@@ -11,9 +11,9 @@ use Rattle.little.specs.Law.{Below}
 use Rattle.little.proofs.Little.{read-back, written-back as number-back, list-read-back, list-written-back, below-take, below-drop}
 use Rattle.resequencer.specs.declared.Resequencer.{Resequencer}
 use Rattle.resequencer_bytes.specs.Stored.{stateIn, stateBytes}
-use Rattle.resequencer_bytes.specs.Claims.{Fits}
+use Rattle.resequencer_bytes.specs.Claims.{FitsTypes}
 
--- k bytes from n on, read and written again
+-- k bytes starting at n, read as a number and written again, are the same bytes
 word-back : (b : List ℕ) (k n : ℕ) → n + k ≤ length b → Below 256 b → littleBytes k (littleOf (take k (drop n b))) ++ drop (n + k) b ≡ drop n b
 word-back b k n h low =
     let l : length (take k (drop n b)) ≡ k = length-take-le k (drop n b) (omega (arith, length-drop n b)) in
@@ -34,7 +34,7 @@ written-back b l low =
     ap (λ (x : List ℕ). getD b 0 0 ∷ getD b 1 0 ∷ x) held
     ∙ sym (drop-cons b 0 0 (omega arith) ∙ ap (λ (x : List ℕ). getD b 0 0 ∷ x) (drop-cons b 1 0 (omega arith)))
 
-pub state-back : (s : Resequencer) → Fits s → stateIn (stateBytes s) ≡ s
+pub state-back : (s : Resequencer) → FitsTypes s → stateIn (stateBytes s) ≡ s
 unfolding stateIn stateBytes littleBytes
 state-back s f =
     let held : littleOf (take 8 (drop 2 (stateBytes s))) ≡ s .held = read-back 8 (s .held) (f .held) in

@@ -1,4 +1,4 @@
--- A state written over its bytes, part by part: its numbers, its tickets.
+-- Writing a state to its bytes part by part: the first 18 bytes and the tickets.
 -- Assumes nothing.
 use mathlib.Core.Path.{_≡_, refl, sym, ap, ap₂, _∙_, subst}
 use mathlib.Core.Bool.{Bool, true, false, cond}
@@ -24,7 +24,7 @@ use Rattle.sequence.specs.Modular.{distance}
 use Rattle.resequencer_bytes.specs.Stored.{stateBytes}
 use Rattle.resequencer_bytes.specs.Parts.{ticketsIn, numbersBytes, withNumbers, withTickets}
 
--- ---- the numbers
+-- ---- the first 18 bytes: NESN, HSNR, the held set and the clock set
 
 numbers-length : (m : Numbers) → length (numbersBytes m) ≡ 18
 unfolding numbersBytes littleBytes
@@ -34,7 +34,7 @@ with-numbers-length : (b : List ℕ) (m : Numbers) → length b ≡ 146 → leng
 unfolding withNumbers
 with-numbers-length b m l = omega (arith, length-append (numbersBytes m) (drop 18 b), numbers-length m, length-drop 18 b)
 
--- a part more: t stands where m bytes of the whole begin
+-- after n bytes of s, write m more bytes: t agrees there with s
 part : (b x y s t : List ℕ) (n m : ℕ) → n ≤ length s → x ≡ paste b 0 s n → y ≡ paste x n t m → take m t ≡ take m (drop n s) → y ≡ paste b 0 s (n + m)
 part b x y s t n m h e q r =
     let z : n ≡ 0 + n = omega arith in
@@ -46,7 +46,7 @@ byte x h =
     let e : x % 256 ≡ x = omega arith in
     ap (λ (y : ℕ). y ∷ []) e
 
--- the four numbers written one after the other
+-- the four fields written one after the other
 pub numbers-put : (m : Numbers) (b b1 b2 b3 b4 : List ℕ) → length b ≡ 146 → m .nesn .0 < 256 → m .hsnr .0 < 256
     → b1 ≡ paste b 0 (littleBytes 1 (m .nesn .0)) 1
     → b2 ≡ paste b1 1 (littleBytes 1 (m .hsnr .0)) 1
@@ -77,12 +77,12 @@ module _ (b ts : List ℕ) (l : length b ≡ 146) where
   unfolding withTickets
   with-tickets-length e = omega (arith, length-append (take 18 b) (listBytes 2 ts), front, length-listBytes 2 ts)
 
-  -- other tickets over these
+  -- replacing the tickets twice
   over-tickets-by : (us : List ℕ) → withTickets (withTickets b ts) us ≡ withTickets b us
   unfolding withTickets
   over-tickets-by us = ap (λ (p : List ℕ). p ++ listBytes 2 us) (take-at (take 18 b) (listBytes 2 ts) 18 front)
 
-  -- the ticket of number k written
+  -- writing the ticket of number k
   pub ticket-put : (k x : ℕ) → k < length ts → paste (withTickets b ts) (18 + 2 * k) (littleBytes 2 x) 2 ≡ withTickets b (set ts k x)
   unfolding withTickets
   ticket-put k x h =
@@ -97,13 +97,13 @@ module _ (b : List ℕ) (l : length b ≡ 146) (low : Below 256 b) where
   tickets-same =
       sym (ap (λ (r : List ℕ). take 18 b ++ r) (list-written-back 2 64 (drop 18 b) (omega (arith, length-drop 18 b)) (below-drop 256 18 b low)) ∙ take-append-drop 18 b)
 
-  -- the ticket of number n written over the bytes
+  -- writing the ticket of number n to the bytes
   pub ticket-written : (n x : ℕ) (y : List ℕ) → n < 64 → y ≡ paste b (18 + 2 * n) (littleBytes 2 x) 2 → y ≡ withTickets b (set (ticketsIn (drop 18 b)) n x)
   ticket-written n x y h e =
       e ∙ ap (λ (q : List ℕ). paste q (18 + 2 * n) (littleBytes 2 x) 2) tickets-same
       ∙ ticket-put b (ticketsIn (drop 18 b)) l n x (omega (arith, length-list 2 64 (drop 18 b)))
 
-  -- the loop that hands tickets on: those of the numbers passed are gone
+  -- the tickets during the loop that hands on: 0 for the i numbers passed so far
   abbrev left : ℕ → ℕ → List ℕ
   left nesn i = ticketsLeft (ticketsIn (drop 18 b)) nesn i
 
@@ -170,16 +170,16 @@ module _ (b : List ℕ) (l : length b ≡ 146) (low : Below 256 b) where
         p ∙ e ∙ ap (withTickets b) (left-same nesn (ticketsIn (drop 18 b)) i h (ap (λ (n : ℕ). getD (ticketsIn (drop 18 b)) n 0) (sym q) ∙ z)) in
         (ap length y ∙ with-tickets-length b (left nesn (i + 1)) l (left-long nesn (i + 1)), y)
 
--- ---- the whole
+-- ---- the whole state
 
--- other tickets and other numbers make another state
+-- replacing the tickets and the first 18 bytes by those of s gives the bytes of s
 pub state-made : (b x : List ℕ) (s : Resequencer) → length b ≡ 146 → x ≡ withTickets b (s .tickets) → withNumbers x (numbersOf s) ≡ stateBytes s
 unfolding withNumbers numbersBytes stateBytes
 state-made b x s l e =
     ap (λ (r : List ℕ). numbersBytes (numbersOf s) ++ r) (ap (drop 18) e ∙ tickets-drop b (s .tickets) l)
     ∙ ap (λ (r : List ℕ). s .nesn .0 ∷ s .hsnr .0 ∷ r) (append-assoc (littleBytes 8 (s .held)) (littleBytes 8 (s .clocks)) (listBytes 2 (s .tickets)))
 
--- ---- memory cleared from the front: i of its n places are 0
+-- ---- clearing n places from the front: i of them are 0 so far
 
 pub clear-next : (o x : List ℕ) (n i : ℕ) → length o ≡ n → i < n → x ≡ paste o 0 (replicate n 0) i → set x i 0 ≡ paste o 0 (replicate n 0) (i + 1)
 clear-next o x n i l h e =

@@ -1,4 +1,4 @@
--- What the contracts of `resequencer_bytes` cite, and what is claimed of them.
+-- The definitions that the contracts of `resequencer_bytes` cite, and the claims about them.
 pub mod Stored
 pub mod Parts
 pub mod Claims

@@ -1,5 +1,7 @@
--- The resequencer's state in 146 bytes that a caller lends, and its calls on them. NESN and HSNR are a byte each, the numbers held and the clocks eight
--- bytes each, the lowest first, and then stand 64 tickets of two bytes each.
+-- The resequencer's state (document 01, "The resequencer") in 146 bytes that a caller lends, and
+-- the calls on them. Byte 0 is NESN and byte 1 HSNR; bytes 2 to 9 are the held set and bytes 10 to
+-- 17 the clock set, one bit per sequence number; bytes 18 to 145 are the 64 tickets of two bytes
+-- each. In each word the lowest byte comes first. In the definitions b is the list of lent bytes.
 -- Assumes nothing.
 use mathlib.Core.Bool.{Bool, cond, _&&_}
 use mathlib.Core.List.{List, _∷_, _++_}
@@ -15,15 +17,16 @@ use Rattle.resequencer.specs.declared.Resequencer.{Resequencer}
 use Rattle.resequencer.specs.declared.Outcome.{Outcome}
 use Rattle.resequencer.specs.declared.Outcome.the-variants.{Held, HandedOn, Old, Duplicate, Refused}
 use Rattle.resequencer.specs.declared.Answer.{Answer}
-use Rattle.resequencer.specs.State.{freshState, goodOrder}
+use Rattle.resequencer.specs.State.{freshState, inOrder}
 use Rattle.resequencer.specs.Events.{outcomeNumber, arriveOf, clockEndOf}
 
 -- ---- the bytes of a state
 
+-- there are as many bytes as a state has
 abbrev pub isState : List ℕ → Bool
 isState b = eqb (length b) 146
 
--- the state that bytes write
+-- the state that the bytes encode
 unfoldable pub stateIn : List ℕ → Resequencer
 stateIn b = record {
   nesn = link (getD b 0 0);
@@ -33,13 +36,14 @@ stateIn b = record {
   tickets = littleList 2 64 (drop 18 b);
 }
 
--- a state in bytes
+-- the bytes of a state
 unfoldable pub stateBytes : Resequencer → List ℕ
 stateBytes s = s .nesn .0 ∷ s .hsnr .0 ∷ (littleBytes 8 (s .held) ++ (littleBytes 8 (s .clocks) ++ listBytes 2 (s .tickets)))
 
 -- ---- an answer in one number
 
--- what became of a packet, as a number: 0 held, 1 handed on, 2 old, 3 a duplicate; a refusal has its own number
+-- the outcome as a number: 0 held, 1 handed on, 2 old, 3 duplicate; 0 for a refusal, which has its
+-- refusal number
 abbrev pub outcomeKind : Outcome → ℕ
 outcomeKind Held = 0
 outcomeKind HandedOn = 1
@@ -47,32 +51,36 @@ outcomeKind Old = 2
 outcomeKind Duplicate = 3
 outcomeKind (Refused why) = 0
 
--- the refusal number in the lowest byte, the kind in the next, the count of tickets handed on above
-unfoldable pub answerCode : Answer → ℕ
-answerCode a = outcomeNumber (a .outcome) + 256 * outcomeKind (a .outcome) + 65536 * a .count
+-- the refusal number in the lowest byte, the outcome in the next, the count of tickets handed on
+-- above
+unfoldable pub packedAnswer : Answer → ℕ
+packedAnswer a = outcomeNumber (a .outcome) + 256 * outcomeKind (a .outcome) + 65536 * a .count
 
 -- ---- a call
 
--- a call lends a state and 32 places for tickets
+-- the lent memory has the right sizes: 146 bytes for a state, 32 places for tickets
 abbrev pub isCall : List ℕ → ℕ → Bool
 isCall b places = isState b && eqb places 32
 
--- what a call answers, where a is the resequencer's answer: memory of another size is no state, and refused with 14
-unfoldable pub codeBy : Bool → Answer → ℕ
-codeBy call a = cond call (answerCode a) (numberOf NotInOrder)
+-- the number that a call returns, where a is the resequencer's answer and `call` is whether the
+-- sizes are right. Memory of another size is refused with 14, "the state is not in good order"
+unfoldable pub answerBy : Bool → Answer → ℕ
+answerBy call a = cond call (packedAnswer a) (numberOf NotInOrder)
 
--- the bytes after it
+-- the state's bytes after the call; a refused answer has the same state, and so the same bytes
 unfoldable pub bytesBy : Bool → Answer → List ℕ → List ℕ
 bytesBy call a b = cond call (stateBytes (a .next)) b
 
--- the places for tickets after it: a refusal writes nothing, else every place is written, the unused ones with 0
+-- the places for tickets after the call: a refusal writes nothing, else every place is written, the
+-- unused ones with 0
 unfoldable pub ticketsBy : Bool → Answer → List ℕ → List ℕ
 ticketsBy call a out = cond call (cond (eqb (outcomeNumber (a .outcome)) 0) (a .tickets) out) out
 
--- ---- the arrival of number n with its ticket
+-- ---- the arrival of number n with its ticket: the number returned, the bytes and the places for
+-- tickets afterwards
 
-abbrev pub arriveCode : List ℕ → ℕ → ℕ → ℕ → ℕ
-arriveCode b places n ticket = codeBy (isCall b places) (arriveOf (stateIn b) n ticket)
+abbrev pub arriveAnswer : List ℕ → ℕ → ℕ → ℕ → ℕ
+arriveAnswer b places n ticket = answerBy (isCall b places) (arriveOf (stateIn b) n ticket)
 
 abbrev pub arriveBytes : List ℕ → ℕ → ℕ → ℕ → List ℕ
 arriveBytes b places n ticket = bytesBy (isCall b places) (arriveOf (stateIn b) n ticket) b
@@ -80,10 +88,11 @@ arriveBytes b places n ticket = bytesBy (isCall b places) (arriveOf (stateIn b) 
 abbrev pub arriveTickets : List ℕ → List ℕ → ℕ → ℕ → List ℕ
 arriveTickets b out n ticket = ticketsBy (isCall b (length out)) (arriveOf (stateIn b) n ticket) out
 
--- ---- the end of the clock of number n
+-- ---- the end of the clock of number n: the number returned, the bytes and the places for tickets
+-- afterwards
 
-abbrev pub clockEndCode : List ℕ → ℕ → ℕ → ℕ
-clockEndCode b places n = codeBy (isCall b places) (clockEndOf (stateIn b) n)
+abbrev pub clockEndAnswer : List ℕ → ℕ → ℕ → ℕ
+clockEndAnswer b places n = answerBy (isCall b places) (clockEndOf (stateIn b) n)
 
 abbrev pub clockEndBytes : List ℕ → ℕ → ℕ → List ℕ
 clockEndBytes b places n = bytesBy (isCall b places) (clockEndOf (stateIn b) n) b
@@ -93,12 +102,14 @@ clockEndTickets b out n = ticketsBy (isCall b (length out)) (clockEndOf (stateIn
 
 -- ---- a fresh state, and good order
 
-unfoldable pub freshCode : List ℕ → ℕ
-freshCode b = cond (isState b) 0 (numberOf NotInOrder)
+-- 0, or 14 if there are not 146 bytes
+unfoldable pub freshAnswer : List ℕ → ℕ
+freshAnswer b = cond (isState b) 0 (numberOf NotInOrder)
 
+-- the bytes afterwards: those of a fresh state, or unchanged if there are not 146
 unfoldable pub freshBytes : List ℕ → List ℕ
 freshBytes b = cond (isState b) (stateBytes freshState) b
 
--- 1 where the bytes are a state in good order
-unfoldable pub orderCode : List ℕ → ℕ
-orderCode b = digit (isState b && goodOrder (stateIn b))
+-- 1 if the bytes are a state in good order, else 0
+unfoldable pub orderAnswer : List ℕ → ℕ
+orderAnswer b = digit (isState b && inOrder (stateIn b))

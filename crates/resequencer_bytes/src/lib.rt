@@ -1,6 +1,8 @@
-// The resequencer's state in 146 bytes that the caller lends, for callers that are not written in Rattle. The calls are those of `resequencer`.
+// The resequencer on 146 bytes that the caller lends, for callers that are not written in Rattle.
+// The calls and their rules are those of `resequencer` (document 01, "The resequencer");
+// specs/Stored.antt gives the layout of the bytes.
 ghost use mathlib.Core.Path.{_≡_};
-ghost use mathlib.Core.Bool.{true, false, cond};
+ghost use mathlib.Core.Bool.{cond};
 ghost use mathlib.Core.List.{[], _∷_, _++_};
 ghost use Prim.Native.Nat.{_+_, _≤_, _<_};
 ghost use lib.Dec.{eqb};
@@ -8,26 +10,26 @@ ghost use lib.ListN.{length, getD, set, drop, replicate};
 ghost use lib.Seq.{paste};
 ghost use Rattle.little.specs.Little.{littleOf, littleBytes};
 ghost use Rattle.wordset.specs.Sets.{every};
-ghost use Rattle.resequencer.specs.State.{goodOrder};
 ghost use Rattle.resequencer.specs.Events.{outcomeNumber, places};
-ghost use Rattle.resequencer.specs.Parts.{ticketFits, ticketsLeft, arrivedTickets, ticketsFrom};
-ghost use Rattle.resequencer.specs.Numbers.{numbersOf, handsOn, holds, StepFits, stepTickets, stepState, stepAnswer};
-ghost use Rattle.resequencer_bytes.specs.Stored.{stateIn, stateBytes, answerCode, arriveCode, arriveBytes, arriveTickets, clockEndCode, clockEndBytes, clockEndTickets, freshCode, freshBytes, orderCode};
-ghost use Rattle.resequencer_bytes.specs.Parts.{ticketsIn, withNumbers, withTickets};
+ghost use Rattle.resequencer.specs.Parts.{ticketFits, ticketsLeft, arrivedTickets, heldTicketsFrom};
+ghost use Rattle.resequencer.specs.Numbers.{numbersOf, stepTickets, stepState, stepAnswer};
+ghost use Rattle.resequencer_bytes.specs.Stored.{stateIn, stateBytes, packedAnswer, arriveAnswer, arriveBytes, arriveTickets, clockEndAnswer, clockEndBytes, clockEndTickets, freshAnswer, freshBytes, orderAnswer};
+ghost use Rattle.resequencer_bytes.specs.Parts.{ticketsIn, withNumbers, withTickets, HandOnFits, AnswerFits};
 use resequencer::Numbers;
 use resequencer::Outcome;
 use resequencer::Step;
 use sequence::LinkNumber;
 use wordset::set64;
 
-// The number that two bytes write.
+// The number that two bytes encode, lowest byte first.
 fn pair(a: u8, b: u8) -> u16
     ensures { λ r. ⌜ r ≡ littleOf (a ∷ b ∷ []) ⌝ }
 {
     (a as u16) | ((b as u16) << 8)
 }
 
-// The number that eight bytes write; a compiler makes one load of it.
+// The number that eight bytes encode, lowest byte first. Written with shifts, so that a compiler
+// makes one load of it.
 fn eight(a: u8, b: u8, c: u8, d: u8, e: u8, f: u8, g: u8, h: u8) -> u64
     ensures { λ r. ⌜ r ≡ littleOf (a ∷ b ∷ c ∷ d ∷ e ∷ f ∷ g ∷ h ∷ []) ⌝ }
 {
@@ -41,7 +43,7 @@ fn eight(a: u8, b: u8, c: u8, d: u8, e: u8, f: u8, g: u8, h: u8) -> u64
         | ((h as u64) << 56)
 }
 
-// The word in eight bytes.
+// The word that the eight bytes of a slice encode.
 fn word(bytes: &[u8]) -> u64
     requires { ⌜ length (now bytes) ≡ 8 ⌝ }
     ensures { λ r. ⌜ r ≡ littleOf (now (bytes .entry)) ⌝ }
@@ -58,7 +60,7 @@ fn word(bytes: &[u8]) -> u64
     )
 }
 
-// The numbers of a state in its bytes.
+// The state's bytes read without the tickets.
 fn numbers_in(state: &[u8]) -> Numbers
     requires { ⌜ length (now state) ≡ 146 ⌝ }
     ensures { λ r. ⌜ r ≡ numbersOf (stateIn (now (state .entry))) ⌝ }
@@ -75,8 +77,8 @@ fn numbers_in(state: &[u8]) -> Numbers
     }
 }
 
-// The ones of stray tickets, those of numbers not held, with the tickets of the eight numbers from p on; a machine with wide words does eight at
-// once.
+// Adds the tickets of the eight numbers starting at `p` to `stray`, the bitwise or of the tickets
+// of numbers not held. In blocks of eight, so that the compiler can use vector instructions.
 fn gather_eight(stray: u16, held: u64, tickets: &[u8], p: usize) -> u16
     requires { ⌜ (length (now tickets) ≡ 128) × ((p ≤ 56) × (eqb stray 0 ≡ every p (ticketFits held (ticketsIn (now tickets))))) ⌝ }
     ensures { λ r. ⌜ eqb r 0 ≡ every (p + 8) (ticketFits held (ticketsIn (now (tickets .entry)))) ⌝ }
@@ -93,7 +95,7 @@ fn gather_eight(stray: u16, held: u64, tickets: &[u8], p: usize) -> u16
     ones
 }
 
-// Whether the tickets of numbers not held are all 0, whatever is held.
+// Whether the tickets of numbers not in `held` are all 0.
 fn none_stray(held: u64, tickets: &[u8]) -> bool
     requires { ⌜ length (now tickets) ≡ 128 ⌝ }
     ensures { λ r. ⌜ r ≡ every 64 (ticketFits held (ticketsIn (now (tickets .entry)))) ⌝ }
@@ -107,7 +109,7 @@ fn none_stray(held: u64, tickets: &[u8]) -> bool
     stray == 0
 }
 
-// Whether the tickets are all 0, as they must be where nothing is held.
+// Whether all tickets are 0: the same test for the case that nothing is held.
 fn all_zero(tickets: &[u8]) -> bool
     requires { ⌜ length (now tickets) ≡ 128 ⌝ }
     ensures { λ r. ⌜ r ≡ every 64 (ticketFits 0 (ticketsIn (now (tickets .entry)))) ⌝ }
@@ -121,8 +123,9 @@ fn all_zero(tickets: &[u8]) -> bool
     stray == 0
 }
 
-// Whether the tickets of numbers not held are all 0; most of the time nothing is held, and that is asked at a quarter of the cost. The calls ask it
-// before they read the numbers, so that these need not be kept meanwhile.
+// Whether the tickets of numbers not held are all 0. Most of the time nothing is held, and then the
+// test is made at a quarter of the cost. The calls make this test before they read the numbers, so
+// that the numbers need not be kept in registers meanwhile.
 fn tickets_in_order(state: &[u8]) -> bool
     requires { ⌜ length (now state) ≡ 146 ⌝ }
     ensures { λ r. ⌜ r ≡ every 64 (ticketFits (stateIn (now (state .entry)) .held) (stateIn (now (state .entry)) .tickets)) ⌝ }
@@ -135,7 +138,7 @@ fn tickets_in_order(state: &[u8]) -> bool
     }
 }
 
-// Writes n in k bytes, from index at.
+// Writes `n` in `k` bytes starting at index `at`, lowest byte first.
 fn put(out: &mut [u8], at: usize, k: usize, n: u64)
     requires { ⌜ at + k ≤ length (now out) ⌝ }
     ensures { λ _. ⌜ now (out .exit) ≡ paste (now (out .entry)) at (littleBytes k n) k ⌝ }
@@ -149,7 +152,7 @@ fn put(out: &mut [u8], at: usize, k: usize, n: u64)
     }
 }
 
-// Writes the numbers of a state.
+// Writes the first 18 bytes of a state: everything but the tickets.
 fn put_numbers(state: &mut [u8], numbers: Numbers)
     requires { ⌜ length (now state) ≡ 146 ⌝ }
     ensures { λ _. ⌜ now (state .exit) ≡ withNumbers (now (state .entry)) numbers ⌝ }
@@ -160,7 +163,7 @@ fn put_numbers(state: &mut [u8], numbers: Numbers)
     put(state, 10, 8, numbers.clocks);
 }
 
-// Puts 0 in every place for a ticket.
+// Sets all 32 places for tickets to 0.
 fn clear_places(out: &mut [u16])
     requires { ⌜ length (now out) ≡ 32 ⌝ }
     ensures { λ _. ⌜ now (out .exit) ≡ replicate 32 0 ⌝ }
@@ -172,7 +175,7 @@ fn clear_places(out: &mut [u16])
     }
 }
 
-// Takes the ticket of a number out of the state.
+// Returns the ticket of `number` and sets it to 0 in the state.
 fn take_ticket(state: &mut [u8], number: u8) -> u16
     requires { ⌜ (length (now state) ≡ 146) × (number < 64) ⌝ }
     ensures { λ r. ⌜ r ≡ getD (ticketsIn (drop 18 (now (state .entry)))) number 0 ⌝ }
@@ -184,13 +187,14 @@ fn take_ticket(state: &mut [u8], number: u8) -> u16
     ticket
 }
 
-// Moves the tickets of those numbers that are held among the m from the start on out of the state and into `out`, all 0 so far, in window order;
-// where d is 1, after the ticket of the packet that has just arrived. The numbers passed that are not held have no ticket to clear. The answer is
-// how many there are.
+// Writes the tickets to be handed on to `out`, which is all 0 before, and returns their count. They
+// are `ticket`, the one of the packet that has just arrived, if `d` is 1, and then those of the
+// held numbers among the `m` numbers starting at `start`, in window order; these become 0 in the
+// state. The tickets of the other numbers passed are 0 already.
 fn hand_on(state: &mut [u8], out: &mut [u16], held: u64, start: u8, d: u8, ticket: u16, m: u8) -> u8
-    requires { ⌜ (length (now state) ≡ 146) × ((now out ≡ replicate 32 0) × ((goodOrder (stateIn (now state)) ≡ true) × ((held ≡ stateIn (now state) .held) × ((start ≡ stateIn (now state) .nesn .0 + d) × ((d ≤ 1) × ((d + m ≤ 32) × (d ≡ 0 → ticket ≡ 0))))))) ⌝ }
-    ensures { λ r. ⌜ r ≡ length (arrivedTickets d ticket ++ ticketsFrom held (ticketsIn (drop 18 (now (state .entry)))) start m) ⌝ }
-    ensures { λ _. ⌜ now (out .exit) ≡ places (arrivedTickets d ticket ++ ticketsFrom held (ticketsIn (drop 18 (now (state .entry)))) start m) ⌝ }
+    requires { ⌜ HandOnFits (now state) (now out) held start d ticket m ⌝ }
+    ensures { λ r. ⌜ r ≡ length (arrivedTickets d ticket ++ heldTicketsFrom held (ticketsIn (drop 18 (now (state .entry)))) start m) ⌝ }
+    ensures { λ _. ⌜ now (out .exit) ≡ places (arrivedTickets d ticket ++ heldTicketsFrom held (ticketsIn (drop 18 (now (state .entry)))) start m) ⌝ }
     ensures { λ _. ⌜ now (state .exit) ≡ withTickets (now (state .entry)) (ticketsLeft (ticketsIn (drop 18 (now (state .entry)))) (stateIn (now (state .entry)) .nesn .0) (d + m)) ⌝ }
 {
     out[0] = ticket;
@@ -206,8 +210,9 @@ fn hand_on(state: &mut [u8], out: &mut [u16], held: u64, start: u8, d: u8, ticke
     count
 }
 
-// Writes what a step of these numbers does, nothing where the call was refused and only the places where a packet was dropped, and tells it in one
-// number: the kind of outcome in the second byte, the count of tickets handed on above.
+// Carries out `step` on the lent memory and returns the call's answer: the refusal number in the
+// lowest byte, the kind of outcome in the second byte, the count of tickets handed on above. A
+// refused call writes nothing; a dropped packet writes only 0 to the places for tickets.
 fn answer(
     state: &mut [u8],
     out: &mut [u16],
@@ -217,8 +222,8 @@ fn answer(
     sn: u8,
     ticket: u16,
 ) -> u32
-    requires { ⌜ (length (now state) ≡ 146) × ((length (now out) ≡ 32) × ((numbers ≡ numbersOf (stateIn (now state))) × (StepFits (numbers .nesn .0) step d sn ticket × ((handsOn (step .outcome) ≡ true → goodOrder (stateIn (now state)) ≡ true) × (handsOn (step .outcome) ≡ false → holds (step .outcome) ≡ false → step .next ≡ numbers))))) ⌝ }
-    ensures { λ r. ⌜ r ≡ answerCode (stepAnswer (stateIn (now (state .entry))) step d sn ticket) ⌝ }
+    requires { ⌜ AnswerFits (now state) (now out) numbers step d sn ticket ⌝ }
+    ensures { λ r. ⌜ r ≡ packedAnswer (stepAnswer (stateIn (now (state .entry))) step d sn ticket) ⌝ }
     ensures { λ _. ⌜ now (state .exit) ≡ cond (eqb (outcomeNumber (step .outcome)) 0) (stateBytes (stepState (stateIn (now (state .entry))) step sn ticket)) (now (state .entry)) ⌝ }
     ensures { λ _. ⌜ now (out .exit) ≡ cond (eqb (outcomeNumber (step .outcome)) 0) (places (stepTickets (stateIn (now (state .entry))) step d ticket)) (now (out .entry)) ⌝ }
 {
@@ -250,9 +255,9 @@ fn answer(
     }
 }
 
-// Makes the bytes a state to which nothing has come: 0, or 14 where they are not 146.
+// Writes the fresh state to the bytes and returns 0. Refused with 14 if there are not 146 bytes.
 pub fn fresh(state: &mut [u8]) -> u32
-    ensures { λ r. ⌜ r ≡ freshCode (now (state .entry)) ⌝ }
+    ensures { λ r. ⌜ r ≡ freshAnswer (now (state .entry)) ⌝ }
     ensures { λ _. ⌜ now (state .exit) ≡ freshBytes (now (state .entry)) ⌝ }
 {
     if state.len() != 146 {
@@ -266,9 +271,9 @@ pub fn fresh(state: &mut [u8]) -> u32
     0
 }
 
-// Whether the bytes are a state in good order: 1 where they are.
+// Returns 1 if the bytes are a state in good order, else 0.
 pub fn in_order(state: &[u8]) -> u32
-    ensures { λ r. ⌜ r ≡ orderCode (now (state .entry)) ⌝ }
+    ensures { λ r. ⌜ r ≡ orderAnswer (now (state .entry)) ⌝ }
 {
     if state.len() != 146 {
         return 0;
@@ -281,9 +286,13 @@ pub fn in_order(state: &[u8]) -> u32
     }
 }
 
-// A packet arrives: the bytes become the state after it, the tickets that it lets go stand in the places, and the answer tells what became of it.
+// A packet with the sequence number `sn` arrives: writes the next state to `state` and the tickets
+// handed on to `tickets`, with 0 in the unused places. Returns the refusal number in the lowest
+// byte, the outcome in the next (0 held, 1 handed on, 2 old, 3 duplicate) and the count of tickets
+// handed on above. Refused: 14 if `state` is not 146 bytes or `tickets` not 32 places, then as
+// `Resequencer::arrive`; a refusal writes nothing.
 pub fn arrive(state: &mut [u8], tickets: &mut [u16], sn: u8, ticket: u16) -> u32
-    ensures { λ r. ⌜ r ≡ arriveCode (now (state .entry)) (length (now (tickets .entry))) sn ticket ⌝ }
+    ensures { λ r. ⌜ r ≡ arriveAnswer (now (state .entry)) (length (now (tickets .entry))) sn ticket ⌝ }
     ensures { λ _. ⌜ now (state .exit) ≡ arriveBytes (now (state .entry)) (length (now (tickets .entry))) sn ticket ⌝ }
     ensures { λ _. ⌜ now (tickets .exit) ≡ arriveTickets (now (state .entry)) (now (tickets .entry)) sn ticket ⌝ }
 {
@@ -299,9 +308,10 @@ pub fn arrive(state: &mut [u8], tickets: &mut [u16], sn: u8, ticket: u16) -> u32
     answer(state, tickets, numbers, step, 1, sn, ticket)
 }
 
-// The clock of a number ends: the same for the tickets that this lets go.
+// The clock of `sn` ends: writes and returns as `arrive` does. Refused: 14 if `state` is not 146
+// bytes or `tickets` not 32 places, then as `Resequencer::clock_end`; a refusal writes nothing.
 pub fn clock_end(state: &mut [u8], tickets: &mut [u16], sn: u8) -> u32
-    ensures { λ r. ⌜ r ≡ clockEndCode (now (state .entry)) (length (now (tickets .entry))) sn ⌝ }
+    ensures { λ r. ⌜ r ≡ clockEndAnswer (now (state .entry)) (length (now (tickets .entry))) sn ⌝ }
     ensures { λ _. ⌜ now (state .exit) ≡ clockEndBytes (now (state .entry)) (length (now (tickets .entry))) sn ⌝ }
     ensures { λ _. ⌜ now (tickets .exit) ≡ clockEndTickets (now (state .entry)) (now (tickets .entry)) sn ⌝ }
 {

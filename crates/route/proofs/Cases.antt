@@ -1,4 +1,4 @@
--- An update, way by way.
+-- An update, case by case.
 -- Assumes nothing.
 use mathlib.Core.Path.{_≡_, refl, sym, ap, ap₂, _∙_}
 use mathlib.Core.Bool.{Bool, true, false, false≢true}
@@ -34,12 +34,12 @@ module _ (t : Table) (xs : List ℕ) where
 
     pub update-done : w ≡ true → (codes : List ℕ) → codes ≡ settled (t .codes) c → (count : ℕ) (lost : List ℕ)
         → report count lost ≡ reportOf (those 256 (lostIn (t .codes) codes))
-        → record { verdict = Done; table = record { codes = codes }; count = count; lost = lost } ≡ updateOf t xs
+        → record { verdict = Done; next = record { codes = codes }; count = count; lost = lost } ≡ updateOf t xs
     unfolding lostBetween
     update-done e codes n count lost l = go (entriesIn xs) refl (f .told) (f .gathered e)
       where
         answer : List ℕ → Report → Updated
-        answer codes r = record { verdict = Done; table = record { codes = codes }; count = r .count; lost = r .lost }
+        answer codes r = record { verdict = Done; next = record { codes = codes }; count = r .count; lost = r .lost }
 
         go : (p : Parsed) → entriesIn xs ≡ p → w ≡ collectedBy p noChange .whole → c ≡ collectedBy p noChange .change → answer codes (report count lost) ≡ updateOf t xs
         go cut q d g = absurd (false≢true (sym d ∙ e))

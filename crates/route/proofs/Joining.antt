@@ -1,4 +1,4 @@
--- Pairs of code and address joined to 256 sets: what each step of reading a list adds up to.
+-- Pairs of code and address added to 256 sets: the result of all steps of reading a list.
 -- Assumes nothing.
 use mathlib.Core.Path.{_≡_, refl, sym, ap, ap₂, _∙_}
 use mathlib.Core.Bool.{Bool, true, false, not, cond, _&&_, _||_, or-false, or-assoc, and-true, and-false}
@@ -26,7 +26,7 @@ record Sets (w : List ℕ) : Type 0 where
   places : length w ≡ 256
   fits : (a : ℕ) → a < 256 → getD w a 0 < 2 ^ 16
 
--- 256 sets, with the pairs of code i and address a joined that f names
+-- 256 sets, with every pair of code i and address a added for which f is true
 unfoldable joined : (ℕ → ℕ → Bool) → List ℕ → List ℕ
 joined f w = listFrom 0 256 (λ a. setOf 16 (λ i. member (getD w a 0) i || f i a))
 
@@ -89,13 +89,13 @@ mark-joined f w code (x ∷ xs) =
     place false true r s = refl
     place false false r s = refl
 
--- an entry's addresses marked are its pairs joined
+-- marking an entry's addresses adds its pairs
 mark-is : (e : Entry) (w : List ℕ) → Sets w → mark (e .code) (e .addresses) w ≡ joined (names e) w
 mark-is e w s = ap (mark (e .code) (e .addresses)) (joined-none w s) ∙ mark-joined (λ i a. false) w (e .code) (e .addresses)
 
 -- ---- all entries
 
--- the change after one entry, and with those after it
+-- the change after one entry, and after the entries that come next
 module _ (e : Entry) (es : List Entry) (c : Change) (s : Sets (c .added)) (t : Sets (c .deleted)) where
   step-joined : (b : Bool) → pairs (joined (adds es) (stepTo b e c .added)) (joined (deletes es) (stepTo b e c .deleted))
       ≡ pairs (joined (λ i a. (b && names e i a) || adds es i a) (c .added)) (joined (λ i a. (not b && names e i a) || deletes es i a) (c .deleted))
@@ -121,7 +121,7 @@ collect-joined (e ∷ es) c s t =
     collect-joined es (stepTo (e .adding) e c) (step-added e es c s t (e .adding)) (step-deleted e es c s t (e .adding))
     ∙ step-joined e es c s t (e .adding)
 
--- where the walk starts: no pair
+-- the walk starts without any pair
 empty-sets : Sets (replicate 256 0)
 empty-sets = record { places = length-replicate {A = ℕ} 256 0; fits = λ a h. rw (getD-replicate {A = ℕ} 256 a 0 0 h) (lit< tt) }
 
@@ -130,7 +130,7 @@ member-empty f a i h l =
     member-joined f (replicate 256 0) a i h l
     ∙ ap (λ (b : Bool). b || f i a) (ap (λ (x : ℕ). member x i) (getD-replicate {A = ℕ} 256 a 0 0 h) ∙ member-none i)
 
--- a table with the change that entries ask for is the table after them
+-- the table changed by the pairs of the entries is the table after these entries
 pub settled-after : (es : List Entry) (t : Table) → settled (t .codes) (collect es noChange) ≡ tableAfter es t .codes
 unfolding settled tableAfter
 settled-after es t =

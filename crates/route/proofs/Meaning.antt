@@ -68,7 +68,7 @@ module _ (es : List Entry) (t : Table) where
             rw z (lit< tt)
       ]
 
--- no entry changes nothing
+-- a list without entries changes nothing
 after-none : (t : Table) → IsTable t → tableAfter [] t ≡ t
 unfolding tableAfter adds deletes
 after-none t i =
@@ -107,12 +107,12 @@ module _ (t : Table) (es : List Entry) where
   accepted list e = record {
     done = ap (λ (u : Updated). u .verdict) e;
     pairs = λ i a hi ha.
-        ap (λ (u : Updated). member (codesOf (u .table) a) i) e ∙ ap (λ (w : ℕ). member w i) (after-at es t a ha) ∙ member-setOf 16 _ i hi;
-    reports = λ a h. subst (λ (u : Updated). (isIn a (take (u .count) (u .lost)) ≡ true) ↔ ((codesOf t a ≢ 0) × (codesOf (u .table) a ≡ 0))) (sym e) (
+        ap (λ (u : Updated). member (codesOf (u .next) a) i) e ∙ ap (λ (w : ℕ). member w i) (after-at es t a ha) ∙ member-setOf 16 _ i hi;
+    reports = λ a h. subst (λ (u : Updated). (isIn a (take (u .count) (u .lost)) ≡ true) ↔ ((codesOf t a ≢ 0) × (codesOf (u .next) a ≡ 0))) (sym e) (
         subst (λ (b : Bool). (b ≡ true) ↔ ((codesOf t a ≢ 0) × (codesOf (tableAfter es t) a ≡ 0))) (sym (lost-in a h)) (lost-is (codesOf t a) (codesOf (tableAfter es t) a)));
     rising = λ j k l. subst (λ (u : Updated). k < u .count → getD (u .lost) j 0 < getD (u .lost) k 0) (sym e) (lost-rise j k l);
     rest-zero = λ j. subst (λ (u : Updated). u .count ≤ j → getD (u .lost) j 0 ≡ 0) (sym e) (past-zero lost (256 - length lost) j);
-    is-table = subst (λ (u : Updated). IsTable (u .table)) (sym e) (after-table es t);
+    is-table = subst (λ (u : Updated). IsTable (u .next)) (sym e) (after-table es t);
   }
 
 cut-refused : (b : Bool) (t : Table) → updateBy b cut t .verdict ≡ Refused RouteListMalformed
@@ -120,7 +120,7 @@ cut-refused true t = refl
 cut-refused false t = refl
 
 refused-unchanged : (b : Bool) (p : Parsed) (t : Table) → updateBy b p t .verdict ≡ Refused RouteListMalformed
-    → (updateBy b p t .table ≡ t) × (updateBy b p t .count ≡ 0) × (updateBy b p t .lost ≡ replicate 256 0)
+    → (updateBy b p t .next ≡ t) × (updateBy b p t .count ≡ 0) × (updateBy b p t .lost ≡ replicate 256 0)
 refused-unchanged true (whole es) t e = let z : _≡_ {A = ℕ} 0 1 = cc in absurd (omega arith)
 refused-unchanged true cut t e = (refl, refl, refl)
 refused-unchanged false p t e = (refl, refl, refl)
@@ -139,5 +139,5 @@ update-claim = record {
     λ e. ap (λ (p : Parsed). updateBy (leb (length list) 255) p t .verdict) e ∙ cut-refused (leb (length list) 255) t,
   );
   unchanged = λ t list. refused-unchanged (leb (length list) 255) (entriesIn list) t;
-  empty = λ t i. (ap (λ (u : Updated). u .table) (empty-list t i), ap (λ (u : Updated). u .count) (empty-list t i));
+  empty = λ t i. (ap (λ (u : Updated). u .next) (empty-list t i), ap (λ (u : Updated). u .count) (empty-list t i));
 }

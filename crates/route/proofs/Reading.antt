@@ -47,7 +47,7 @@ module _ (xs : List ℕ) (c : Change) where
         let n : getD xs 0 0 % 8 + 2 - 1 ≡ getD xs 0 0 % 8 + 1 = omega arith in
         simp (le-leb _ _ fits, ne-eqb _ _ a, h, n)
 
--- ---- one entry of what is parsed
+-- ---- what one entry adds to the parsed list
 
 parse-follow : (e : Entry) (p : Parsed) (c : Change) → collectedBy (follow e p) c ≡ collectedBy p (step e c)
 unfolding collect
@@ -76,7 +76,8 @@ unfolding parse collect
 parse-end zero c = refl
 parse-end (suc f) c = refl
 
--- ---- what the walk keeps: to go on from here, with the change as it is now, is to read the whole list
+-- ---- the invariant of the walk: reading on from here, with the change as it is now, has the same
+-- result as reading the whole list
 
 pub record Going (xs : List ℕ) (start : Change) (at : ℕ) (c : Change) : Type 0 where
   pub within : at ≤ length xs

@@ -1,4 +1,5 @@
--- The report: the laws of those numbers that a test picks, and one address after another noted.
+-- The report: laws of the list of those numbers below n that a test picks, and of noting one
+-- address after another.
 -- Assumes nothing.
 use mathlib.Core.Path.{_≡_, refl, sym, ap, ap₂, _∙_}
 use mathlib.Core.Logic.{_≢_}
@@ -24,7 +25,7 @@ isIn-append a [] ys = refl
 isIn-append a (x ∷ xs) ys = ap (λ (b : Bool). eqb a x || b) (isIn-append a xs ys) ∙ sym (or-assoc (eqb a x) (isIn a xs) (isIn a ys))
 
 module _ (p : ℕ → Bool) where
-  -- none from n up
+  -- the list has no number from n up
   those-past : (n a : ℕ) → n ≤ a → isIn a (those n p) ≡ false
   unfolding those isIn
   those-past zero a h = refl

@@ -1,4 +1,4 @@
--- What the contracts of `route` cite, and what an update means.
+-- The definitions that the contracts of `route` cite, and the claim about what an update means.
 pub mod Entries
 pub mod Updating
 pub mod Parts

@@ -1,4 +1,5 @@
--- The table and its update: document 01, "Interrogators and ground addresses", first paragraph.
+-- The table, the number and the choice of interrogators of an address, and the update of the table:
+-- document 01, "Interrogators and ground addresses".
 -- Assumes nothing.
 use mathlib.Core.Bool.{Bool, true, false, not, cond, _&&_, _||_}
 use mathlib.Core.List.{List, [], _∷_, _++_}
@@ -10,9 +11,9 @@ use Rattle.refusal.specs.declared.Verdict.{Verdict}
 use Rattle.refusal.specs.declared.Verdict.the-variants.{Done, Refused}
 use Rattle.lists.specs.Lists.{listFrom}
 use Rattle.wordset.specs.Sets.{member, setOf, count}
-use Rattle.interrogator.specs.declared.LastUsed.{LastUsed}
-use Rattle.interrogator.specs.declared.Choice.{Choice}
-use Rattle.interrogator.specs.Choosing.{chooseOf}
+use Rattle.route_choice.specs.declared.LastUsed.{LastUsed}
+use Rattle.route_choice.specs.declared.Choice.{Choice}
+use Rattle.route_choice.specs.Choosing.{chooseOf}
 use Rattle.route.specs.declared.Table.{Table}
 use Rattle.route.specs.declared.Updated.{Updated}
 use Rattle.route.specs.Entries.{Entry, Parsed, cut, whole, entriesIn, adds, deletes}
@@ -21,6 +22,7 @@ use Rattle.route.specs.Entries.{Entry, Parsed, cut, whole, entriesIn, ad
 abbrev pub emptyTable : Table
 emptyTable = record { codes = replicate 256 0 }
 
+-- the set of the codes of address a, a word whose bit i is code i
 abbrev pub codesOf : Table → ℕ → ℕ
 codesOf t a = getD (t .codes) a 0
 
@@ -28,35 +30,41 @@ codesOf t a = getD (t .codes) a 0
 abbrev pub countOf : Table → ℕ → ℕ
 countOf t a = count 16 (codesOf t a)
 
+-- the choice of an interrogator for address a: the choice among its codes
 abbrev pub chooseFor : Table → ℕ → LastUsed → ℕ → Choice
 chooseFor t a last failed = chooseOf (codesOf t a) last failed
 
 -- ---- the update
 
--- "All additions (AD = 1) are made before any deletion": a code is there afterwards if it was there or is added, and is not deleted
+-- "All additions (AD = 1) are made before any deletion": the codes of address a afterwards are
+-- those that were there or are added, and are not deleted
 abbrev pub codesAfter : List Entry → Table → ℕ → ℕ
 codesAfter es t a = setOf 16 (λ i. (member (codesOf t a) i || adds es i a) && not (deletes es i a))
 
+-- the table after the entries of a list
 unfoldable pub tableAfter : List Entry → Table → Table
 tableAfter es t = record { codes = listFrom 0 256 (codesAfter es t) }
 
--- those numbers below n that p picks, rising
+-- the numbers below n for which p is true, rising
 unfoldable pub those : ℕ → (ℕ → Bool) → List ℕ
 those zero p = []
 those (suc n) p = those n p ++ cond (p n) (n ∷ []) []
 
--- "the addresses that had a code before and have none after"
+-- a is one of "the addresses that had a code before and have none after"
 abbrev pub isLost : Table → Table → ℕ → Bool
 isLost before after a = not (eqb (codesOf before a) 0) && eqb (codesOf after a) 0
 
+-- all these addresses, rising
 unfoldable pub lostBetween : Table → Table → List ℕ
 lostBetween before after = those 256 (isLost before after)
 
--- a report in 256 places, the unused ones 0
+-- an answer that reports the addresses `lost`: their count, and their list in 256 places, of which
+-- the unused ones are 0
 abbrev pub reported : Verdict → Table → List ℕ → Updated
-reported verdict after lost = record { verdict = verdict; table = after; count = length lost; lost = lost ++ replicate (256 - length lost) 0 }
+reported verdict after lost = record { verdict = verdict; next = after; count = length lost; lost = lost ++ replicate (256 - length lost) 0 }
 
--- 6 is the only refusal, and changes nothing
+-- the answer, from whether the list has at most 255 bytes and from its entries: "6 is the only
+-- refusal", and it changes and reports nothing
 abbrev pub updateBy : Bool → Parsed → Table → Updated
 updateBy true (whole es) t = reported Done (tableAfter es t) (lostBetween t (tableAfter es t))
 updateBy true cut t = reported (Refused RouteListMalformed) t []

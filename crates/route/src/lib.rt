@@ -1,5 +1,5 @@
-// The table of interrogator codes against ground addresses, and the route lists that change it (document 01, "Interrogators and ground
-// addresses").
+// The table of interrogator codes against ground addresses, and the route lists that change it
+// (document 01, "Interrogators and ground addresses").
 ghost use mathlib.Core.Path.{_≡_};
 ghost use mathlib.Core.Bool.{false, not, _&&_};
 ghost use mathlib.Core.List.{[]};
@@ -11,27 +11,29 @@ ghost use Rattle.refusal.specs.declared.Verdict.the-variants.{Refused as Refuse
 ghost use Rattle.route.specs.Entries.{entriesIn};
 ghost use Rattle.route.specs.Updating.{emptyTable, codesOf, countOf, chooseFor, those, reported, updateOf};
 ghost use Rattle.route.specs.Parts.{mark, change, taken, takenOf, collectedBy, Found, settled, report, reportOf, noted, lostIn, NoneFrom};
-use interrogator::Choice;
-use interrogator::LastUsed;
 use refusal::Refusal;
 use refusal::Verdict;
+use route_choice::Choice;
+use route_choice::LastUsed;
 use wordset::set16;
 
-// For each of the 256 ground addresses the set of its interrogators' codes II.
+// For each of the 256 ground addresses the set of the codes II of its interrogators: bit i of
+// `codes[a]` is code i at address a.
 pub struct Table {
     pub codes: [u16; 256],
 }
 
-// The answer to an update, and the table after it: the addresses that had a code before and have none after, rising, the count of them first;
-// unused places are 0.
+// The answer of `Table::update`. `next` is the table after it, the same table after a refusal. The
+// first `count` places of `lost` hold the addresses that had a code before and have none after,
+// rising; the other places are 0.
 pub struct Updated {
     pub verdict: Verdict,
-    pub table: Table,
+    pub next: Table,
     pub count: u16,
     pub lost: [u8; 256],
 }
 
-// The code joins the set of each address named.
+// Adds `code` to the set of each of these addresses.
 fn mark_all(sets: &mut [u16; 256], addresses: &[u8], code: u8)
     ensures { λ _. ⌜ now (sets .exit) ≡ mark code (now (addresses .entry)) (now (sets .entry)) ⌝ }
 {
@@ -43,8 +45,10 @@ fn mark_all(sets: &mut [u16; 256], addresses: &[u8], code: u8)
     }
 }
 
-// Reads the entry that the rest of a list starts with, and answers how many bytes it takes, 0 where it is cut. All entries are gathered before
-// the table is touched, since every addition is made before any deletion; the sets are lent, so that no entry costs a copy of them.
+// Reads the first entry of `rest` and adds its pairs of code and address to `added` or to
+// `deleted`. Returns the size of the entry in bytes, 0 if it is cut. The pairs of all entries are
+// collected before the table is changed, since every addition is made before any deletion; the sets
+// are lent, so that no entry costs a copy of them.
 fn take_entry(rest: &[u8], added: &mut [u16; 256], deleted: &mut [u16; 256]) -> usize
     ensures { λ r. ⌜ taken r (now (added .exit)) (now (deleted .exit)) ≡ takenOf (now (rest .entry)) (change (now (added .entry)) (now (deleted .entry))) ⌝ }
 {
@@ -66,8 +70,9 @@ fn take_entry(rest: &[u8], added: &mut [u16; 256], deleted: &mut [u16; 256]) -> 
     }
 }
 
-// Gathers the change that a route list asks for: each entry is read as the rest of the list from where the last one ended. Answers whether the
-// last entry is whole.
+// Collects the additions and the deletions of a route list in `added` and `deleted`: "Each entry is
+// read as the rest of the list from where the last one ended." Returns false if the last entry is
+// cut.
 fn collect_list(list: &[u8], added: &mut [u16; 256], deleted: &mut [u16; 256]) -> bool
     ensures { λ r. ⌜ Found (collectedBy (entriesIn (now (list .entry))) (change (now (added .entry)) (now (deleted .entry)))) r
         (change (now (added .exit)) (now (deleted .exit))) ⌝ }
@@ -83,7 +88,7 @@ fn collect_list(list: &[u8], added: &mut [u16; 256], deleted: &mut [u16; 256]) -
     true
 }
 
-// The table after a change: all additions, then all deletions.
+// The sets of the table after all additions are made, and then all deletions.
 fn settle(codes: &[u16; 256], added: &[u16; 256], deleted: &[u16; 256]) -> [u16; 256]
     ensures { λ r. ⌜ r ≡ settled (now (codes .entry)) (change (now (added .entry)) (now (deleted .entry))) ⌝ }
 {
@@ -96,14 +101,15 @@ fn settle(codes: &[u16; 256], added: &[u16; 256], deleted: &[u16; 256]) -> [u16;
     next
 }
 
-// Whether an address had a code and has none.
+// Whether an address is lost: it had a code before and has none after.
 fn is_lost(before: u16, after: u16) -> bool
     ensures { λ r. ⌜ r ≡ (not (eqb before 0) && eqb after 0) ⌝ }
 {
     if before == 0 { false } else { after == 0 }
 }
 
-// Whether any of the 16 addresses from one on is lost. Few are, so most of a table is passed over by this test.
+// Whether any of the 16 addresses starting at `from` is lost. Few addresses are, so this test skips
+// most blocks of a table.
 fn any_lost(before: &[u16; 256], after: &[u16; 256], from: usize) -> bool
     requires { ⌜ from + 16 ≤ 256 ⌝ }
     ensures { λ r. ⌜ (r ≡ false → NoneFrom from 16 (lostIn (now (before .entry)) (now (after .entry)))) ⌝ }
@@ -118,7 +124,8 @@ fn any_lost(before: &[u16; 256], after: &[u16; 256], from: usize) -> bool
     any
 }
 
-// Notes the address if it is lost, and answers the count of those noted.
+// Writes address `a` to the next free place of `lost` if `gone` is true. Returns the new count of
+// addresses in `lost`.
 fn note(lost: &mut [u8; 256], count: u16, a: usize, gone: bool) -> u16
     requires { ⌜ (a < 256) × (count < 256) ⌝ }
     ensures { λ r. ⌜ report r (now (lost .exit)) ≡ noted (report count (now (lost .entry))) a gone ⌝ }
@@ -132,7 +139,8 @@ fn note(lost: &mut [u8; 256], count: u16, a: usize, gone: bool) -> u16
     }
 }
 
-// Notes those of the 16 addresses from one on that are lost.
+// Adds to the `count` addresses in `lost` those of the 16 addresses starting at `from` that are
+// lost. Returns the new count.
 fn note_each(
     before: &[u16; 256],
     after: &[u16; 256],
@@ -153,7 +161,8 @@ fn note_each(
     n
 }
 
-// The same, where 16 addresses of which none is lost cost one test.
+// The same as `note_each`, but a block of 16 addresses of which none is lost costs only the test
+// `any_lost`.
 fn note_any(
     before: &[u16; 256],
     after: &[u16; 256],
@@ -171,7 +180,8 @@ fn note_any(
     }
 }
 
-// The addresses that lost their last code, rising, written into 256 zeros; answers the count of them.
+// Writes the addresses that lost their last code to `lost`, rising; `lost` must be all 0 before.
+// Returns their count.
 fn lost_between(before: &[u16; 256], after: &[u16; 256], lost: &mut [u8; 256]) -> u16
     requires { ⌜ now lost ≡ replicate 256 0 ⌝ }
     ensures { λ r. ⌜ report r (now (lost .exit)) ≡ reportOf (those 256 (lostIn (now (before .entry)) (now (after .entry)))) ⌝ }
@@ -185,27 +195,27 @@ fn lost_between(before: &[u16; 256], after: &[u16; 256], lost: &mut [u8; 256]) -
     count
 }
 
-// The answer to a list that is refused: the table as it was given.
+// The answer to a refused list: refusal 6, the same table, no address reported.
 fn refuse(table: Table) -> Updated
     ensures { λ r. ⌜ r ≡ reported (RefusedVerdict RouteListMalformed) table [] ⌝ }
 {
     Updated {
         verdict: Verdict::Refused(Refusal::RouteListMalformed),
-        table: table,
+        next: table,
         count: 0,
         lost: [0u8; 256],
     }
 }
 
 impl Table {
-    // The table at first: no address has a code.
+    // The table at the start: no address has a code.
     pub fn empty() -> Table
         ensures { λ r. ⌜ r ≡ emptyTable ⌝ }
     {
         Table { codes: [0u16; 256] }
     }
 
-    // The set of an address's codes.
+    // The set of the codes of `address`: bit i is code i.
     pub fn codes_of(self, address: u8) -> u16
         ensures { λ r. ⌜ r ≡ codesOf self address ⌝ }
     {
@@ -213,21 +223,24 @@ impl Table {
         codes[address as usize]
     }
 
-    // How many interrogators an address has.
+    // The number of interrogators of `address`.
     pub fn count_of(self, address: u8) -> u8
         ensures { λ r. ⌜ r ≡ countOf self address ⌝ }
     {
         set16::count(self.codes_of(address))
     }
 
-    // Chooses an interrogator for an address.
+    // Chooses an interrogator for `address` by `route_choice::choose`, which describes the choice
+    // and its refusals.
     pub fn choose_for(self, address: u8, last: LastUsed, failed: u16) -> Choice
         ensures { λ r. ⌜ r ≡ chooseFor self address last failed ⌝ }
     {
-        interrogator::choose(self.codes_of(address), last, failed)
+        route_choice::choose(self.codes_of(address), last, failed)
     }
 
-    // The table after a route list, and the addresses that lost their last code by it.
+    // Changes the table by a route list, all additions before any deletion, and reports the
+    // addresses that lost their last code. Refuses with 6 if the list has more than 255 bytes or
+    // its last entry is cut.
     pub fn update(self, list: &[u8]) -> Updated
         ensures { λ r. ⌜ r ≡ updateOf self (now (list .entry)) ⌝ }
     {
@@ -243,7 +256,7 @@ impl Table {
             let count = lost_between(&before, &codes, &mut lost);
             Updated {
                 verdict: Verdict::Done,
-                table: Table { codes: codes },
+                next: Table { codes: codes },
                 count: count,
                 lost: lost,
             }

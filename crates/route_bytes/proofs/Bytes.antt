@@ -1,4 +1,5 @@
--- The bytes of a table: where one set stands, and all sets read or written one after another.
+-- The bytes of a table: where each set is stored, and how all sets are read or written one after
+-- another.
 -- Assumes nothing.
 use mathlib.Core.Path.{_≡_, refl, sym, ap, ap₂, _∙_}
 use mathlib.Core.List.{List, [], _∷_, _++_, append-assoc, append-nil}
@@ -16,7 +17,7 @@ use Rattle.route_bytes.specs.Stored.{tableIn}
 
 -- ---- read
 
--- an address's set stands in two bytes
+-- an address's set is stored in two bytes
 pub set-bytes : (b : List ℕ) (a : ℕ) → length b ≡ 512 → a < 256 → getD b (a * 2) 0 + 256 * getD b (a * 2 + 1) 0 ≡ codesOf (tableIn b) a
 unfolding littleOf
 set-bytes b a e h =

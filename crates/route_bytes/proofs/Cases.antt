@@ -1,4 +1,4 @@
--- An update of a table in bytes, way by way.
+-- An update of a table in bytes, case by case.
 -- Assumes nothing.
 use mathlib.Core.Path.{_≡_, refl, sym, ap, ap₂, _∙_}
 use mathlib.Core.Logic.{_⊎_, inl, inr}
@@ -20,7 +20,7 @@ use Rattle.route.specs.declared.Table.{Table}
 use Rattle.route.specs.declared.Updated.{Updated}
 use Rattle.route.specs.Entries.{Parsed, cut, whole, entriesIn}
 use Rattle.route.specs.Updating.{reported, updateBy, updateOf}
-use Rattle.route_bytes.specs.Stored.{tableIn, tableBytes, canUpdate, updateIn, updateCode, updateBytes, ifDone, updateLost}
+use Rattle.route_bytes.specs.Stored.{tableIn, tableBytes, canUpdate, updateIn, updateAnswer, updateBytes, ifDone, updateLost}
 
 -- an update is done, or it answers 6 and changes nothing
 pub either : (t : Table) (list : List ℕ) → (updateOf t list .verdict ≡ Done) ⊎ (updateOf t list ≡ reported (Refused RouteListMalformed) t [])
@@ -32,18 +32,18 @@ either t list = go (leb (length list) 255) (entriesIn list)
     go true cut = inr refl
     go false p = inr refl
 
--- what stands afterwards: the answer, the table's bytes and the report
+-- the result of the call is right: the answer, the table's bytes and the report
 abbrev pub Ends : List ℕ → List ℕ → List ℕ → ℕ → List ℕ → List ℕ → Type 0
 Ends b list lost code bytes report =
-    (code ≡ updateCode b list (length lost)) × ((bytes ≡ updateBytes b list (length lost)) × (report ≡ updateLost b list lost))
+    (code ≡ updateAnswer b list (length lost)) × ((bytes ≡ updateBytes b list (length lost)) × (report ≡ updateLost b list lost))
 
 module _ (b list lost : List ℕ) where
   none : canUpdate b (length lost) ≡ false → Ends b list lost 14 b lost
-  unfolding updateCode updateBytes updateLost
+  unfolding updateAnswer updateBytes updateLost
   none e = (
     ap (λ (t : Bool). cond t (verdictNumber (updateIn b list .verdict) + 256 * updateIn b list .count) 14) (sym e),
     (
-      ap (λ (t : Bool). cond t (tableBytes (updateIn b list .table)) b) (sym e),
+      ap (λ (t : Bool). cond t (tableBytes (updateIn b list .next)) b) (sym e),
       ap (λ (t : Bool). cond t (ifDone (updateIn b list .verdict) (updateIn b list .lost) lost) lost) (sym e),
     ),
   )
@@ -55,18 +55,18 @@ module _ (b list lost : List ℕ) where
   no-places e h = none (ap₂ _&&_ (eq-eqb _ _ e) (ne-eqb _ _ h))
 
   module _ (e : length b ≡ 512) (f : length lost ≡ 256) (u : Updated) (q : u ≡ updateIn b list) where
-    some : Ends b list lost (verdictNumber (u .verdict) + 256 * u .count) (tableBytes (u .table)) (ifDone (u .verdict) (u .lost) lost)
-    unfolding updateCode updateBytes updateLost
+    some : Ends b list lost (verdictNumber (u .verdict) + 256 * u .count) (tableBytes (u .next)) (ifDone (u .verdict) (u .lost) lost)
+    unfolding updateAnswer updateBytes updateLost
     some =
         let can : true ≡ canUpdate b (length lost) = sym (ap₂ _&&_ (eq-eqb _ _ e) (eq-eqb _ _ f)) in (
           ap₂ (λ (t : Bool) (x : Updated). cond t (verdictNumber (x .verdict) + 256 * x .count) 14) can q,
           (
-            ap₂ (λ (t : Bool) (x : Updated). cond t (tableBytes (x .table)) b) can q,
+            ap₂ (λ (t : Bool) (x : Updated). cond t (tableBytes (x .next)) b) can q,
             ap₂ (λ (t : Bool) (x : Updated). cond t (ifDone (x .verdict) (x .lost) lost) lost) can q,
           ),
         )
 
-    pub done : u .verdict ≡ Done → (bytes report : List ℕ) → bytes ≡ tableBytes (u .table) → report ≡ u .lost → Ends b list lost (256 * u .count) bytes report
+    pub done : u .verdict ≡ Done → (bytes report : List ℕ) → bytes ≡ tableBytes (u .next) → report ≡ u .lost → Ends b list lost (256 * u .count) bytes report
     done d bytes report p r =
         let z : 256 * u .count ≡ 0 + 256 * u .count = omega arith in (
           z ∙ ap (λ (v : Verdict). verdictNumber v + 256 * u .count) (sym d) ∙ some .0,
@@ -84,7 +84,7 @@ module _ (b list lost : List ℕ) where
         go (inl x) = let z : _≡_ {A = ℕ} 0 1 = cc in absurd (omega arith)
         go (inr x) =
             let count : u .count ≡ 0 = ap (λ (y : Updated). y .count) (q ∙ x) in
-            let table : u .table ≡ tableIn b = ap (λ (y : Updated). y .table) (q ∙ x) in
+            let table : u .next ≡ tableIn b = ap (λ (y : Updated). y .next) (q ∙ x) in
             let number : verdictNumber (u .verdict) ≡ numberOf why = ap verdictNumber d in
             let z : n ≡ verdictNumber (u .verdict) + 256 * u .count = omega arith in (
               z ∙ some .0,

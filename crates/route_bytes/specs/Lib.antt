@@ -1,3 +1,3 @@
--- What the contracts of `route_bytes` cite, and what is claimed of them.
+-- The definitions that the contracts of `route_bytes` cite, and the claims about them.
 pub mod Stored
 pub mod Claims

@@ -1,20 +1,24 @@
-// The table of interrogators in 512 bytes that the caller lends, for callers that are not written in Rattle. Every answer is one number: the
-// refusal number of document 01, and 256 times the value, 0 after a refusal. specs/Stored.antt has the forms.
+// The table of interrogators in 512 bytes that the caller lends, for callers that are not written
+// in Rattle (document 01, "Interrogators and ground addresses"). Every answer is one number: the
+// refusal number of document 01, 0 for done, plus 256 times the value. After a refusal the value is
+// 0, with one exception: with refusal 8 a choice gives the two clearing codes as well
+// (`choice_answer`). Lent bytes of a wrong length are refused with 14. specs/Stored.antt defines
+// the layout of the bytes and of the answers.
 ghost use mathlib.Core.Path.{_≡_};
 ghost use Prim.Native.Nat.{_<_};
 ghost use lib.ListN.{length, replicate};
 ghost use Rattle.route.specs.Updating.{codesOf};
-ghost use Rattle.route_bytes.specs.Stored.{tableIn, tableBytes, choiceAnswer, emptyCode, emptyBytes, codesCode, countCode, chooseCode, chooseAmongCode, updateCode, updateBytes, updateLost};
-use interrogator::Choice;
-use interrogator::Clearing;
-use interrogator::LastUsed;
+ghost use Rattle.route_bytes.specs.Stored.{tableIn, tableBytes, choiceAnswer, emptyAnswer, emptyBytes, codesAnswer, countAnswer, chooseAnswer, chooseAmongAnswer, updateAnswer, updateBytes, updateLost};
 use refusal::Verdict;
 use route::Table;
+use route_choice::Choice;
+use route_choice::Clearing;
+use route_choice::LastUsed;
 use wordset::set16;
 
 // ---- the bytes of a table
 
-// The set of an address's codes: its two bytes, and no others, are read.
+// The set of the codes of `address`. Only its two bytes are read.
 fn set_at(table: &[u8], address: usize) -> u16
     requires { ⌜ (length (now table) ≡ 512) × (address < 256) ⌝ }
     ensures { λ r. ⌜ r ≡ codesOf (tableIn (now (table .entry))) address ⌝ }
@@ -23,7 +27,7 @@ fn set_at(table: &[u8], address: usize) -> u16
     table[at] as u16 + 256 * (table[at + 1] as u16)
 }
 
-// All sets.
+// The sets of all addresses.
 fn read_table(table: &[u8]) -> [u16; 256]
     requires { ⌜ length (now table) ≡ 512 ⌝ }
     ensures { λ r. ⌜ r ≡ tableIn (now (table .entry)) .codes ⌝ }
@@ -37,7 +41,7 @@ fn read_table(table: &[u8]) -> [u16; 256]
     codes
 }
 
-// Writes all sets.
+// Writes the sets of all addresses to `table`.
 fn write_table(table: &mut [u8], codes: &[u16])
     requires { ⌜ (length (now table) ≡ 512) × (length (now codes) ≡ 256) ⌝ }
     ensures { λ _. ⌜ now (table .exit) ≡ tableBytes (record { codes = now (codes .entry) }) ⌝ }
@@ -52,19 +56,15 @@ fn write_table(table: &mut [u8], codes: &[u16])
     }
 }
 
-// Writes a report.
+// Copies the report of an update to `out`.
 fn write_lost(out: &mut [u8], lost: &[u8])
     requires { ⌜ (length (now out) ≡ 256) × (length (now lost) ≡ 256) ⌝ }
     ensures { λ _. ⌜ now (out .exit) ≡ now (lost .entry) ⌝ }
 {
-    let mut i: usize = 0;
-    while i < 256 {
-        out[i] = lost[i];
-        i = i + 1;
-    }
+    lists::copy_in(out, lost);
 }
 
-// Clears lent bytes.
+// Sets all bytes to 0.
 fn clear(bytes: &mut [u8])
     ensures { λ _. ⌜ now (bytes .exit) ≡ replicate (length (now (bytes .entry))) 0 ⌝ }
 {
@@ -75,9 +75,9 @@ fn clear(bytes: &mut [u8])
     }
 }
 
-// Makes the lent bytes an empty table.
+// Makes `table` an empty table. Refuses with 14 if it does not have 512 bytes.
 pub fn empty(table: &mut [u8]) -> u32
-    ensures { λ r. ⌜ r ≡ emptyCode (now (table .entry)) ⌝ }
+    ensures { λ r. ⌜ r ≡ emptyAnswer (now (table .entry)) ⌝ }
     ensures { λ _. ⌜ now (table .exit) ≡ emptyBytes (now (table .entry)) ⌝ }
 {
     if table.len() == 512 {
@@ -88,11 +88,12 @@ pub fn empty(table: &mut [u8]) -> u32
     }
 }
 
-// ---- what is asked of one address
+// ---- questions about one address
 
-// The set of an address's codes.
+// The set of the codes of `address`: bit i of the value is code i. Refuses with 14 if `table` does
+// not have 512 bytes.
 pub fn codes(table: &[u8], address: u8) -> u32
-    ensures { λ r. ⌜ r ≡ codesCode (now (table .entry)) address ⌝ }
+    ensures { λ r. ⌜ r ≡ codesAnswer (now (table .entry)) address ⌝ }
 {
     if table.len() == 512 {
         256 * (set_at(table, address as usize) as u32)
@@ -101,9 +102,9 @@ pub fn codes(table: &[u8], address: u8) -> u32
     }
 }
 
-// How many interrogators an address has.
+// The number of interrogators of `address`. Refuses with 14 if `table` does not have 512 bytes.
 pub fn count(table: &[u8], address: u8) -> u32
-    ensures { λ r. ⌜ r ≡ countCode (now (table .entry)) address ⌝ }
+    ensures { λ r. ⌜ r ≡ countAnswer (now (table .entry)) address ⌝ }
 {
     if table.len() == 512 {
         256 * (set16::count(set_at(table, address as usize)) as u32)
@@ -112,7 +113,9 @@ pub fn count(table: &[u8], address: u8) -> u32
     }
 }
 
-// A choice as one number.
+// A choice as one number. Its bytes, the lowest first, are the refusal number, the code, the
+// clearing cause CC and the diagnostic code DC. CC and DC are 141 and 162 with refusal 8, and 0
+// otherwise; the code is 0 with any refusal.
 fn choice_answer(choice: Choice) -> u32
     ensures { λ r. ⌜ r ≡ choiceAnswer choice ⌝ }
 {
@@ -131,9 +134,11 @@ fn choice_answer(choice: Choice) -> u32
     }
 }
 
-// Chooses an interrogator for an address: the last-used code or 65535, and the set of the failed ones.
+// Chooses an interrogator for `address`; `last` is the last-used code or 65535 for none, `failed`
+// the set of the failed codes. Refuses with 14 if `table` does not have 512 bytes, then as
+// `choose_among`. The answer is that of `choice_answer`.
 pub fn choose(table: &[u8], address: u8, last: u16, failed: u16) -> u32
-    ensures { λ r. ⌜ r ≡ chooseCode (now (table .entry)) address last failed ⌝ }
+    ensures { λ r. ⌜ r ≡ chooseAnswer (now (table .entry)) address last failed ⌝ }
 {
     if table.len() == 512 {
         choose_among(set_at(table, address as usize), last, failed)
@@ -142,15 +147,16 @@ pub fn choose(table: &[u8], address: u8, last: u16, failed: u16) -> u32
     }
 }
 
-// Chooses an interrogator among codes that the caller has. A last-used code over 15 is refused with 1, whatever the sets are.
+// The same choice from a set of codes that the caller has. Refuses with 1 if `last` is over 15 and
+// not 65535, then with 8 if `codes` is empty, then with 15 if all of `codes` have failed.
 pub fn choose_among(codes: u16, last: u16, failed: u16) -> u32
-    ensures { λ r. ⌜ r ≡ chooseAmongCode codes last failed ⌝ }
+    ensures { λ r. ⌜ r ≡ chooseAmongAnswer codes last failed ⌝ }
 {
     if last < 16 {
-        choice_answer(interrogator::choose(codes, LastUsed::Code(last as u8), failed))
+        choice_answer(route_choice::choose(codes, LastUsed::Code(last as u8), failed))
     } else {
         if last == 65535 {
-            choice_answer(interrogator::choose(codes, LastUsed::Nothing, failed))
+            choice_answer(route_choice::choose(codes, LastUsed::Nothing, failed))
         } else {
             1
         }
@@ -159,10 +165,12 @@ pub fn choose_among(codes: u16, last: u16, failed: u16) -> u32
 
 // ---- the update
 
-// Changes the table by a route list, and reports the addresses that lost their last code: the value is the count of them, and all 256 places
-// of lost are written, the unused ones 0. A list that is refused leaves both as they were.
+// Changes the table by a route list, and reports the addresses that lost their last code: the value
+// is their count, and `lost` gets these addresses, rising, and 0 in the places after them. Refuses
+// with 14 if `table` does not have 512 bytes or `lost` does not have 256 places, then with 6 if
+// `list` has more than 255 bytes or its last entry is cut; a refusal leaves both as they were.
 pub fn update(table: &mut [u8], list: &[u8], lost: &mut [u8]) -> u32
-    ensures { λ r. ⌜ r ≡ updateCode (now (table .entry)) (now (list .entry)) (length (now (lost .entry))) ⌝ }
+    ensures { λ r. ⌜ r ≡ updateAnswer (now (table .entry)) (now (list .entry)) (length (now (lost .entry))) ⌝ }
     ensures { λ _. ⌜ now (table .exit) ≡ updateBytes (now (table .entry)) (now (list .entry)) (length (now (lost .entry))) ⌝ }
     ensures { λ _. ⌜ now (lost .exit) ≡ updateLost (now (table .entry)) (now (list .entry)) (now (lost .entry)) ⌝ }
 {
@@ -179,7 +187,7 @@ pub fn update(table: &mut [u8], list: &[u8], lost: &mut [u8]) -> u32
     let verdict = updated.verdict;
     match verdict {
         Verdict::Done => {
-            let after = updated.table;
+            let after = updated.next;
             let codes = after.codes;
             let report = updated.lost;
             write_table(table, &codes);

@@ -7,7 +7,7 @@ use native.Mathlib.Omega.{arith}
 use Rattle.sequence.specs.Modular.{distance, DistanceLaw}
 
 module _ (m : ℕ) (pos : 0 < m) where
-  -- a, and what it lacks to a multiple of m, come to a multiple of m
+  -- a + (m - a % m) is a multiple of m, so that adding it leaves d's remainder
   round : (a d : ℕ) → (a + d + (m - a % m)) % m ≡ d % m
   round a d =
       let sum : a + d + (m - a % m) ≡ a / m * m + (d + m) = omega (arith, div-add-mod' a m, mod-lt a pos) in
@@ -30,20 +30,20 @@ module _ (m : ℕ) (pos : 0 < m) where
       sym (mod-eq-of-lt h) ∙ sym (round a d) ∙ sym (mod-add-mod (a + d) m (m - a % m))
       ∙ ap (λ (x : ℕ). (x + (m - a % m)) % m) e ∙ mod-add-mod b m (m - a % m)
 
-  -- from a or from its remainder, it is as far
+  -- the distance from a's remainder is the distance from a
   pub distance-remainder : (a b : ℕ) → distance m (a % m) b ≡ distance m a b
   unfolding distance
   distance-remainder a b = ap (λ (x : ℕ). (b + (m - x)) % m) (mod-mod a m)
 
-  -- what stands at a distance is that far
+  -- the distance from a to a + d is d
   pub distance-at : (a d : ℕ) → d < m → distance m a ((a + d) % m) ≡ d
   distance-at a d h = sym (distance-only a ((a + d) % m) d h (sym (mod-mod (a + d) m)))
 
-  -- the distance of two remainders, where the numbers themselves are less than m apart
+  -- the same of the remainders of both numbers
   pub distance-apart : (a d : ℕ) → d < m → distance m (a % m) ((a + d) % m) ≡ d
   distance-apart a d h = distance-remainder a ((a + d) % m) ∙ distance-at a d h
 
-  -- the number at a number's distance is that number
+  -- b is the number at b's distance from a
   pub at-distance : (a b : ℕ) → b < m → (a + distance m a b) % m ≡ b
   at-distance a b h = distance-reaches a b ∙ mod-eq-of-lt h
 

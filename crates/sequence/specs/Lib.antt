@@ -1,3 +1,3 @@
--- What the contracts of `sequence` cite, and the law of distance.
+-- The definitions that the contracts of `sequence` use, and the law of distance.
 pub mod Modular
 pub mod Numbers

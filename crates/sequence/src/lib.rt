@@ -1,6 +1,8 @@
-// The two counters of the link (document 01, "The two counters"): the link sequence number SN, which wraps at 64 and gives order on the
-// link, and the packet sequence numbers PS and PR, which wrap at 16 and give permission to send. They are two types, each with its own
-// distance, so that one is never compared with the other. Every u8 is taken: a number past its field counts as its remainder.
+// The two counters of the link (document 01, "The two counters"): the link sequence number SN,
+// which wraps at 64 and gives order on the link, and the packet sequence numbers PS and PR, which
+// wrap at 16 and give permission to send. They are two types, each with its own distance function,
+// so that one is never compared with the other. Every call accepts any u8; `distance_to` and `next`
+// take a number that is too large for its field as its remainder modulo 64 or 16.
 ghost use mathlib.Core.Path.{_≡_};
 ghost use Rattle.sequence.specs.Modular.{distance, next};
 ghost use Rattle.sequence.specs.Numbers.{link, packet, inField};
@@ -12,14 +14,14 @@ pub struct LinkNumber(pub u8);
 pub struct PacketNumber(pub u8);
 
 impl LinkNumber {
-    // Whether the number fits its field of 6 bits.
+    // Whether the number fits its field of 6 bits: it is at most 63.
     pub fn in_field(self) -> bool
         ensures { λ r. ⌜ r ≡ inField 64 (self .0) ⌝ }
     {
         self.0 < 64
     }
 
-    // How far `to` is ahead of this number, modulo 64.
+    // The distance from this number to `to`, 0 to 63: `to` minus this number, modulo 64.
     pub fn distance_to(self, to: LinkNumber) -> u8
         ensures { λ r. ⌜ r ≡ distance 64 (self .0) (to .0) ⌝ }
     {
@@ -35,14 +37,14 @@ impl LinkNumber {
 }
 
 impl PacketNumber {
-    // Whether the number fits its field of 4 bits.
+    // Whether the number fits its field of 4 bits: it is at most 15.
     pub fn in_field(self) -> bool
         ensures { λ r. ⌜ r ≡ inField 16 (self .0) ⌝ }
     {
         self.0 < 16
     }
 
-    // How far `to` is ahead of this number, modulo 16.
+    // The distance from this number to `to`, 0 to 15: `to` minus this number, modulo 16.
     pub fn distance_to(self, to: PacketNumber) -> u8
         ensures { λ r. ⌜ r ≡ distance 16 (self .0) (to .0) ⌝ }
     {

@@ -9,8 +9,8 @@ use lib.ListN.{length, take, drop, getD, length-drop, drop-of-length-le, List·g
 use lib.Seq.{take-all}
 use Rattle.lists.specs.Frames.{partsOf}
 use Rattle.lists.proofs.Frames.{count-parts}
-use Rattle.joining.proofs.Places.{from, from-here}
-use Rattle.transfer.specs.Circuit.{frameAt}
+use Rattle.message.proofs.Places.{from, from-here}
+use Rattle.transfer_claims.specs.Circuit.{frameAt}
 
 -- ---- a part that ends with the bytes at the latest
 

@@ -1,4 +1,5 @@
--- What the loop over all events keeps: what is kept now, and the frames that the calls from here on hand on, make what is kept in the end.
+-- What the loop over all events keeps: what is kept now, and the frames that the calls from here on
+-- hand on, make what is kept in the end.
 -- Assumes nothing.
 use mathlib.Core.Path.{_≡_, refl, sym, ap, ap₂, _∙_, subst}
 use mathlib.Core.Bool.{Bool, true, false, cond}
@@ -7,14 +8,15 @@ use Prim.Native.Nat.{ℕ, suc, _+_, _-_, _≤_, _<_}
 use native.Mathlib.Numerals.{add-one}
 use native.Mathlib.Omega.{arith}
 use lib.ListN.{length}
-use Rattle.form.specs.declared.Form.{Form}
-use Rattle.history.specs.Events.{Event}
+use Rattle.frame_form.specs.declared.Form.{Form}
+use Rattle.resequencer_claims.specs.Events.{Event}
 use Rattle.resequencer.specs.declared.Resequencer.{Resequencer}
 use Rattle.resequencer.specs.declared.Answer.{Answer}
 use Rattle.resequencer.specs.State.{freshState}
 use Rattle.resequencer.specs.Events.{handed}
-use Rattle.transfer.specs.Circuit.{frameAt, answer, ticketsHandedOn, framesHandedOn}
-use Rattle.transfer.specs.Rule.{callAt, takesPlace, callsFrom}
+use Rattle.transfer_claims.specs.Rule.{demoForm}
+use Rattle.transfer_claims.specs.Circuit.{frameAt, frameAnswer, placesHandedOn, framesHandedOn}
+use Rattle.transfer_claims.specs.Rule.{callAt, takesPlace, callsFrom}
 use Rattle.transfer_demo.specs.declared.Handed.{Handed}
 use Rattle.transfer_demo.specs.Kept.{keepAll, Holds}
 use Rattle.transfer_demo.proofs.Keeping.{all-append, all-none}
@@ -35,17 +37,17 @@ calls-here count steps i e b h q t =
 
 -- the frames that these calls hand on
 abbrev pub framesFrom : List (List ℕ) → Resequencer → List Event → List (List ℕ)
-framesFrom parts s es = map (frameAt parts) (ticketsHandedOn Form.ShortUplink parts s es)
+framesFrom parts s es = map (frameAt parts) (placesHandedOn demoForm parts s es)
 
-first-frames : (parts : List (List ℕ)) (s : Resequencer) (e : Event) (es : List Event) (a : Answer) → a ≡ answer Form.ShortUplink parts s e
+first-frames : (parts : List (List ℕ)) (s : Resequencer) (e : Event) (es : List Event) (a : Answer) → a ≡ frameAnswer demoForm parts s e
     → framesFrom parts s (e ∷ es) ≡ map (frameAt parts) (handed a) ++ framesFrom parts (a .next) es
-unfolding ticketsHandedOn
+unfolding placesHandedOn
 first-frames parts s e es a q =
-    map-append (frameAt parts) (handed (answer Form.ShortUplink parts s e)) (ticketsHandedOn Form.ShortUplink parts (answer Form.ShortUplink parts s e .next) es)
+    map-append (frameAt parts) (handed (frameAnswer demoForm parts s e)) (placesHandedOn demoForm parts (frameAnswer demoForm parts s e .next) es)
     ∙ sym (ap (λ (x : Answer). map (frameAt parts) (handed x) ++ framesFrom parts (x .next) es) q)
 
 no-frames : (parts : List (List ℕ)) (s : Resequencer) (count i : ℕ) → framesFrom parts s (callsFrom count i 0) ≡ []
-unfolding ticketsHandedOn callsFrom
+unfolding placesHandedOn callsFrom
 no-frames parts s count i = refl
 
 -- ---- the loop
@@ -57,7 +59,7 @@ pub record Going (parts : List (List ℕ)) (count steps : ℕ) (received₀ size
   pub kept : List (List ℕ)
   pub holds : Holds received sizes tally kept
   pub rest : keepAll (length received₀) (length sizes₀) kept (framesFrom parts state (callsFrom count i (steps - i)))
-      ≡ keepAll (length received₀) (length sizes₀) [] (framesHandedOn Form.ShortUplink parts (callsFrom count 0 steps))
+      ≡ keepAll (length received₀) (length sizes₀) [] (framesHandedOn demoForm parts (callsFrom count 0 steps))
 
 pub starts : (parts : List (List ℕ)) (count steps : ℕ) (received sizes : List ℕ) {s : Resequencer} → s ≡ freshState
     → Going parts count steps received sizes received sizes s (record { frames = 0; bytes = 0 }) 0
@@ -76,7 +78,7 @@ starts parts count steps received sizes {s} e =
 
 module _ (parts : List (List ℕ)) (count steps : ℕ) (received₀ sizes₀ received sizes : List ℕ) (state : Resequencer) (tally : Handed) (i : ℕ)
     (v : Going parts count steps received₀ sizes₀ received sizes state tally i) (h : i < steps) (e : Event) (q : e ≡ callAt i) where
-  pub turn-made : (a : Answer) (received1 sizes1 : List ℕ) (next : Handed) → takesPlace count e ≡ true → a ≡ answer Form.ShortUplink parts state e
+  pub turn-made : (a : Answer) (received1 sizes1 : List ℕ) (next : Handed) → takesPlace count e ≡ true → a ≡ frameAnswer demoForm parts state e
       → length received1 ≡ length received → length sizes1 ≡ length sizes
       → ((ks : List (List ℕ)) → Holds received sizes tally ks → Holds received1 sizes1 next (keepAll (length received) (length sizes) ks (map (frameAt parts) (handed a))))
       → Going parts count steps received₀ sizes₀ received1 sizes1 (a .next) next (i + 1)
@@ -112,10 +114,10 @@ module _ (parts : List (List ℕ)) (count steps : ℕ) (received₀ sizes₀ rec
 
 pub ends : (parts : List (List ℕ)) (count steps : ℕ) (received₀ sizes₀ received sizes : List ℕ) (state : Resequencer) (tally : Handed) (i : ℕ)
     → Going parts count steps received₀ sizes₀ received sizes state tally i → steps ≤ i
-    → Holds received sizes tally (keepAll (length received₀) (length sizes₀) [] (framesHandedOn Form.ShortUplink parts (callsFrom count 0 steps)))
+    → Holds received sizes tally (keepAll (length received₀) (length sizes₀) [] (framesHandedOn demoForm parts (callsFrom count 0 steps)))
 ends parts count steps received₀ sizes₀ received sizes state tally i v h =
     let z : steps - i ≡ 0 = omega arith in
-    let all : v .kept ≡ keepAll (length received₀) (length sizes₀) [] (framesHandedOn Form.ShortUplink parts (callsFrom count 0 steps)) =
+    let all : v .kept ≡ keepAll (length received₀) (length sizes₀) [] (framesHandedOn demoForm parts (callsFrom count 0 steps)) =
     sym (all-none (length received₀) (length sizes₀) (v .kept))
     ∙ sym (ap (keepAll (length received₀) (length sizes₀) (v .kept)) (ap (λ (n : ℕ). framesFrom parts state (callsFrom count i n)) z ∙ no-frames parts state count i))
     ∙ v .rest in

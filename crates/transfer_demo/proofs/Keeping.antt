@@ -14,7 +14,7 @@ use Rattle.lists.specs.Frames.{bytesIn}
 use Rattle.lists.proofs.Frames.{bytes-append, lengths-append}
 use Rattle.resequencer.specs.declared.Answer.{Answer}
 use Rattle.resequencer.specs.Events.{handed}
-use Rattle.transfer.specs.Circuit.{frameAt}
+use Rattle.transfer_claims.specs.Circuit.{frameAt}
 use Rattle.transfer_demo.specs.declared.Handed.{Handed}
 use Rattle.transfer_demo.specs.Kept.{keepOne, keepAll, Holds}
 

@@ -1,3 +1,3 @@
--- What the demonstration does, in the words of the claims.
+-- The definitions that the contracts of the program cite.
 pub mod Calls
 pub mod Kept

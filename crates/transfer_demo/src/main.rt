@@ -1,26 +1,26 @@
-// Carries a message across a link that disorders it. The message comes on standard input, 4,096 bytes at most; it is cut into short uplink frames, the
-// frames arrive at a resequencer out of order, some of them twice, and those that are handed on are joined again. Standard output tells every event.
+// Carries a message across a link that disorders frames. The message, of at most 4,096 bytes, is
+// read from standard input and cut into long downlink frames; the frames arrive at a resequencer
+// out of order, some of them twice; the frames that are handed on are joined again. Every event is
+// printed.
 ghost use mathlib.Core.Path.{_≡_};
 ghost use mathlib.Core.Bool.{true};
 ghost use mathlib.Core.List.{List, [], map};
 ghost use Prim.Native.Nat.{ℕ, _+_, _≤_, _<_, min};
 ghost use lib.ListN.{length, take};
-ghost use lib.Seq.{paste};
 ghost use Rattle.lists.specs.Frames.{partsOf};
-ghost use Rattle.frame.specs.Reading.{readOf};
+ghost use Rattle.frame.specs.Reading.{readOf, snIn};
 ghost use Rattle.resequencer.specs.Events.{handed, arriveOf};
-ghost use Rattle.transfer.specs.Circuit.{frameAt, snOf, answer, framesHandedOn};
-ghost use Rattle.transfer.specs.Rule.{callAt, takesPlace, allCalls};
-ghost use Rattle.transfer_demo.specs.Calls.{callOf};
+ghost use Rattle.transfer_claims.specs.Circuit.{frameAt, frameAnswer, framesHandedOn};
+ghost use Rattle.transfer_claims.specs.Rule.{demoForm, callAt, takesPlace, allCalls};
+ghost use Rattle.transfer_demo.specs.Calls.{eventOf};
 ghost use Rattle.transfer_demo.specs.Kept.{keepOne, keepAll, Holds};
-use cutting::Cut;
-use cutting::Start;
-use form::Form;
-use frame::Packet;
 use frame::Read;
-use joining::Joined;
+use frame_form::Form;
 use libc::STDIN_FILENO;
 use libc::STDOUT_FILENO;
+use message::cutting::Cut;
+use message::cutting::Start;
+use message::joining::Joined;
 use resequencer::Answer;
 use resequencer::Outcome;
 use resequencer::Resequencer;
@@ -28,14 +28,15 @@ use sequence::LinkNumber;
 use sequence::PacketNumber;
 use wordset::set64;
 
-// What happens on the link: the frame at a place arrives, or something with an SN that no field holds; or a clock ends.
+// What happens on the link: the frame at a place of the list arrives; something else arrives, with
+// an SN over 63; or the clock of an SN ends.
 enum Event {
     Frame(usize),
     Stray(u8),
     ClockEnd(u8),
 }
 
-// The frames that have been handed on, and their bytes.
+// How much has been handed on: the number of frames, and the sum of their bytes.
 struct Handed {
     frames: usize,
     bytes: usize,
@@ -49,7 +50,7 @@ fn main() {
     carry(&message[..n], &mut frames, &mut lengths);
 }
 
-// Cuts the message, from SN 0, and sends it across.
+// Cuts the message from SN 0 and sends the frames across the link.
 fn carry(message: &[u8], frames: &mut [u8], lengths: &mut [usize])
     requires { ⌜ length (now lengths) ≤ 164 ⌝ }
 {
@@ -59,7 +60,7 @@ fn carry(message: &[u8], frames: &mut [u8], lengths: &mut [usize])
         pr: PacketNumber(0),
         ch: 1,
     };
-    let cut = cutting::cut_message(Form::ShortUplink, start, message, frames, lengths);
+    let cut = message::cutting::cut_message(Form::LongDownlink(3), start, message, frames, lengths);
     match cut {
         Cut::Frames(count, bytes) => {
             number(message.len());
@@ -69,7 +70,8 @@ fn carry(message: &[u8], frames: &mut [u8], lengths: &mut [usize])
             cross(message, &lengths[..count], &frames[..bytes]);
         }
         Cut::Refused(why) => {
-            // the numbers are in range and there is room for every message: only its length can be refused
+            // the numbers are in range and the lists have room for every message: only 4 is
+            // possible
             text(b"refused ");
             number(why.number() as usize);
             text(b": a message has 4,096 bytes at most\n");
@@ -77,7 +79,8 @@ fn carry(message: &[u8], frames: &mut [u8], lengths: &mut [usize])
     }
 }
 
-// Lets the frames arrive, joins those that are handed on, and tells whether that is the message.
+// Lets the frames arrive, joins those that are handed on, and prints whether this gives the
+// message.
 fn cross(message: &[u8], lengths: &[usize], frames: &[u8])
     requires { ⌜ length (now lengths) ≤ 164 ⌝ }
 {
@@ -87,8 +90,8 @@ fn cross(message: &[u8], lengths: &[usize], frames: &[u8])
     let count = handed.frames;
     let bytes = handed.bytes;
     let mut joined = [0u8; 4096];
-    let answer = joining::join_frames(
-        Form::ShortUplink,
+    let answer = message::joining::join_frames(
+        Form::LongDownlink(3),
         &sizes[..count],
         &received[..bytes],
         &mut joined,
@@ -98,11 +101,12 @@ fn cross(message: &[u8], lengths: &[usize], frames: &[u8])
 
 // ---- the link
 
-// The rule by which frames are disordered and repeated: those of each eight come as 2 0 2 5 1 3 7 4 0 6, and between them a clock that is not running
-// ends, and something with SN 64 arrives. No frame is more than 7 places from the one expected.
+// The rule by which frames are disordered and repeated: the frames of each eight arrive in the
+// order 2 0 2 5 1 3 7 4 0 6; after 3 a clock ends that is not running, and at the end something
+// with SN 64 arrives. No frame is more than 6 places from the one expected.
 fn event_at(step: usize) -> Event
     requires { ⌜ step < 252 ⌝ }
-    ensures { λ r. ⌜ callOf r ≡ callAt step ⌝ }
+    ensures { λ r. ⌜ eventOf r ≡ callAt step ⌝ }
 {
     let first = step / 12 * 8;
     match step % 12 {
@@ -121,9 +125,10 @@ fn event_at(step: usize) -> Event
     }
 }
 
-// Whether the event happens: a frame past the last does not arrive.
+// Whether the event takes place, if there are `count` frames: a frame past the last does not
+// arrive.
 fn happens(event: Event, count: usize) -> bool
-    ensures { λ r. ⌜ r ≡ takesPlace count (callOf event) ⌝ }
+    ensures { λ r. ⌜ r ≡ takesPlace count (eventOf event) ⌝ }
 {
     match event {
         Event::Frame(place) => place < count,
@@ -132,11 +137,12 @@ fn happens(event: Event, count: usize) -> bool
     }
 }
 
-// Goes through all events; the frames that are handed on stand one after the other in `received` afterwards, and their lengths in the list.
+// Goes through all events. The frames that are handed on are stored one after the other in
+// `received`, and their lengths in `sizes`.
 fn receive(lengths: &[usize], frames: &[u8], received: &mut [u8], sizes: &mut [usize]) -> Handed
     requires { ⌜ length (now lengths) ≤ 164 ⌝ }
     ensures { λ r. ⌜ Holds (now (received .exit)) (now (sizes .exit)) r (keepAll (length (now (received .entry))) (length (now (sizes .entry))) []
-        (framesHandedOn Form.ShortUplink (partsOf (now (lengths .entry)) (now (frames .entry))) (allCalls (length (now (lengths .entry)))))) ⌝ }
+        (framesHandedOn demoForm (partsOf (now (lengths .entry)) (now (frames .entry))) (allCalls (length (now (lengths .entry)))))) ⌝ }
 {
     let steps = (lengths.len() + 7) / 8 * 12;
     let mut state = Resequencer::fresh();
@@ -160,10 +166,10 @@ fn receive(lengths: &[usize], frames: &[u8], received: &mut [u8], sizes: &mut [u
     handed
 }
 
-// What the resequencer answers to an event.
+// The resequencer's answer to an event.
 fn answer_to(state: Resequencer, event: Event, lengths: &[usize], frames: &[u8]) -> Answer
-    requires { ⌜ (takesPlace (length (now lengths)) (callOf event) ≡ true) × (length (now lengths) ≤ 65536) ⌝ }
-    ensures { λ r. ⌜ r ≡ answer Form.ShortUplink (partsOf (now (lengths .entry)) (now (frames .entry))) state (callOf event) ⌝ }
+    requires { ⌜ (takesPlace (length (now lengths)) (eventOf event) ≡ true) × (length (now lengths) ≤ 65536) ⌝ }
+    ensures { λ r. ⌜ r ≡ frameAnswer demoForm (partsOf (now (lengths .entry)) (now (frames .entry))) state (eventOf event) ⌝ }
 {
     match event {
         Event::Frame(place) => arrive(state, frame_at(lengths, frames, place), place),
@@ -172,30 +178,29 @@ fn answer_to(state: Resequencer, event: Event, lengths: &[usize], frames: &[u8])
     }
 }
 
-// A frame arrives with the sequence number that is read in it; its ticket is its place.
+// The arrival of a frame, with the SN that is read in it; its ticket is its place in the list.
 fn arrive(state: Resequencer, frame: &[u8], place: usize) -> Answer
     requires { ⌜ place < 65536 ⌝ }
-    ensures { λ r. ⌜ r ≡ arriveOf state (snOf (readOf Form.ShortUplink (now (frame .entry)))) place ⌝ }
+    ensures { λ r. ⌜ r ≡ arriveOf state (snIn (readOf demoForm (now (frame .entry)))) place ⌝ }
 {
-    let sn = number_of(frame::read_frame(Form::ShortUplink, frame));
+    let sn = number_of(frame::read_frame(Form::LongDownlink(3), frame));
     state.arrive(LinkNumber(sn), place as u16)
 }
 
-// The sequence number of what was read; 64, which is none, where nothing was.
+// The SN of the packet that was read; 64, which its field cannot hold, if the frame was refused.
 fn number_of(read: Read) -> u8
-    ensures { λ r. ⌜ r ≡ snOf read ⌝ }
+    ensures { λ r. ⌜ r ≡ snIn read ⌝ }
 {
     match read {
-        Read::Packet(packet, _place) => match packet {
-            Packet::Data(d) => d.sn.0,
-            Packet::ClearRequest(d) => d.sn.0,
-            Packet::ClearConfirmation(d) => d.sn.0,
-        },
+        Read::Packet(packet, _place) => {
+            let sn = packet.sn();
+            sn.0
+        }
         Read::Refused(_why) => 64,
     }
 }
 
-// The frame at a place, as its part of the bytes of all; no bytes where there is none.
+// The frame at a place of the list, as a part of `frames`; no bytes if there are fewer frames.
 fn frame_at<'a>(lengths: &[usize], frames: &'a [u8], place: usize) -> &'a [u8]
     ensures { λ r. ⌜ now r ≡ frameAt (partsOf (now (lengths .entry)) (now (frames .entry))) place ⌝ }
 {
@@ -212,7 +217,7 @@ fn frame_at<'a>(lengths: &[usize], frames: &'a [u8], place: usize) -> &'a [u8]
     &frames[..0]
 }
 
-// Where a part of so many bytes ends, at the end of all at the latest.
+// Where a part of `n` bytes from index `at` ends, at `all` at the latest.
 fn part_end(at: usize, n: usize, all: usize) -> usize
     requires { ⌜ at ≤ all ⌝ }
     ensures { λ r. ⌜ r ≡ min (at + n) all ⌝ }
@@ -220,7 +225,7 @@ fn part_end(at: usize, n: usize, all: usize) -> usize
     if n <= all - at { at + n } else { all }
 }
 
-// How many tickets an answer hands on; there are 32 places for them.
+// The number of tickets that an answer hands on, at most 32.
 fn count_handed(answer: Answer) -> usize
     ensures { λ r. ⌜ (r ≡ length (handed answer)) × (r ≤ 32) ⌝ }
 {
@@ -228,7 +233,8 @@ fn count_handed(answer: Answer) -> usize
     if count < 32 { count } else { 32 }
 }
 
-// Takes the frames that an answer hands on, in its order.
+// Stores the frames that an answer hands on, in the order of its tickets, after those stored
+// before.
 fn hand_on(
     answer: Answer,
     lengths: &[usize],
@@ -256,7 +262,8 @@ fn hand_on(
     kept
 }
 
-// Puts a frame after those kept before, if there is room.
+// Stores a frame in `received` after those kept before, and its length in `sizes`. If one of the
+// two lists has no room, the frame is left out.
 fn keep(frame: &[u8], received: &mut [u8], sizes: &mut [usize], kept: Handed) -> Handed
     requires { ⌜ (kept .frames ≤ length (now sizes)) × (kept .bytes ≤ length (now received)) ⌝ }
     ensures { λ r. ⌜ (r .frames ≤ length (now (sizes .exit))) × (r .bytes ≤ length (now (received .exit))) ⌝ }
@@ -268,47 +275,37 @@ fn keep(frame: &[u8], received: &mut [u8], sizes: &mut [usize], kept: Handed) ->
     if frame.len() <= received.len() - at {
         if count < sizes.len() {
             sizes[count] = frame.len();
-            copy_in(received, at, frame);
+            let end = at + frame.len();
+            lists::copy_in(&mut received[at..end], frame);
             return Handed {
                 frames: count + 1,
-                bytes: at + frame.len(),
+                bytes: end,
             };
         }
     }
     kept
 }
 
-// Copies bytes into out, from index at.
-fn copy_in(out: &mut [u8], at: usize, bytes: &[u8])
-    requires { ⌜ at + length (now bytes) ≤ length (now out) ⌝ }
-    ensures { λ _. ⌜ now (out .exit) ≡ paste (now (out .entry)) at (now (bytes .entry)) (length (now (bytes .entry))) ⌝ }
-{
-    let mut i = 0;
-    while i < bytes.len() {
-        out[at + i] = bytes[i];
-        i = i + 1;
-    }
-}
+// ---- what is printed
 
-// ---- what is told
-
-// Bytes as they stand.
+// Prints bytes.
 fn text(bytes: &[u8]) {
     io::write_all(STDOUT_FILENO, bytes);
 }
 
-// A number in decimal.
+// Prints a number in decimal.
 fn number(n: usize) {
     io::print_decimal(STDOUT_FILENO, n as u64);
 }
 
-// One of several numbers.
+// Prints one number of a list.
 fn listed(n: usize) {
     text(b" ");
     number(n);
 }
 
-// One event: its number, what became of it, what is held and which clocks run afterwards.
+// Prints one event: what arrived or ended, the outcome, and the held numbers and running clocks
+// afterwards.
 fn tell(event: Event, answer: Answer) {
     match event {
         Event::Frame(place) => {
@@ -333,7 +330,7 @@ fn tell(event: Event, answer: Answer) {
     text(b"\n");
 }
 
-// The numbers of a set.
+// Prints the numbers of a set.
 fn tell_set(title: &[u8], set: u64) {
     text(title);
     if set == 0 {
@@ -348,7 +345,7 @@ fn tell_set(title: &[u8], set: u64) {
     }
 }
 
-// What became of the event: what is handed on, or why nothing is.
+// Prints the outcome of an event: what is handed on, or why nothing is.
 fn tell_outcome(answer: Answer) {
     let outcome = answer.outcome;
     match outcome {
@@ -366,7 +363,7 @@ fn tell_outcome(answer: Answer) {
     }
 }
 
-// The places of the frames that are handed on, which are their tickets.
+// Prints the places of the frames that are handed on, which are their tickets.
 fn tell_tickets(answer: Answer) {
     let tickets = answer.tickets;
     let count = count_handed(answer);
@@ -377,7 +374,7 @@ fn tell_tickets(answer: Answer) {
     }
 }
 
-// Whether the message that was joined is the one that was sent.
+// Prints whether the message that was joined is the one that was sent.
 fn tell_joined(answer: Joined, message: &[u8], joined: &[u8]) {
     match answer {
         Joined::Bytes(n) => {
@@ -397,7 +394,7 @@ fn tell_joined(answer: Joined, message: &[u8], joined: &[u8]) {
     }
 }
 
-// Whether the first bytes of all are these.
+// Whether `all` begins with `bytes`.
 fn is_front(bytes: &[u8], all: &[u8]) -> bool
     ensures { λ r. ⌜ (r ≡ true → take (length (now (bytes .entry))) (now (all .entry)) ≡ now (bytes .entry))
         × (take (length (now (bytes .entry))) (now (all .entry)) ≡ now (bytes .entry) → r ≡ true) ⌝ }

@@ -1,6 +1,7 @@
--- The two ends together. In true numbers: a packets are acknowledged at the sending end, t taken at the receiving end and g granted, with
--- a ≤ t ≤ g ≤ a + 15. The packets on the way are those from t up to g; the PR on the way rise from a to t. Each event keeps that, and a
--- delivery is never refused.
+-- The two ends together. In true numbers: a packets are acknowledged at the sending end, t accepted
+-- at the receiving end and g granted, with a ≤ t ≤ g ≤ a + 15. The packets on the way are those
+-- from t up to g; the PR on the way rise from a to t. Each event preserves that, and no delivery is
+-- refused.
 -- Assumes nothing.
 use mathlib.Core.Path.{_≡_, refl, sym, ap, ap₂, _∙_, subst}
 use mathlib.Core.Bool.{true}
@@ -9,22 +10,22 @@ use Prim.Native.Nat.{ℕ, zero, suc, _+_, _%_, _≤_, zero-le}
 use native.Mathlib.Decide.{decLe}
 use native.Mathlib.Omega.{arith}
 use lib.ListN.{length, replicate}
-use Rattle.sender.specs.declared.Sender.{Sender}
-use Rattle.sender.specs.declared.Sent.{Sent}
-use Rattle.sender.specs.declared.Acknowledged.{Acknowledged}
-use Rattle.receiver.specs.declared.Received.{Received}
-use Rattle.receiver.specs.declared.Told.{Told}
+use Rattle.window.specs.declared.sender.Sender.{Sender}
+use Rattle.window.specs.declared.sender.Sent.{Sent}
+use Rattle.window.specs.declared.sender.Acknowledged.{Acknowledged}
+use Rattle.window.specs.declared.receiver.Received.{Received}
+use Rattle.window.specs.declared.receiver.Told.{Told}
 use Rattle.refusal.specs.declared.Verdict.the-variants.{Done}
 use Rattle.refusal.specs.Numbers.{verdictNumber}
 use Rattle.sequence.specs.declared.PacketNumber.{PacketNumber}
 use Rattle.sequence.specs.Numbers.{packet}
-use Rattle.sender.specs.Sending.{freshSender, sendOf, acknowledgeOf}
-use Rattle.receiver.specs.Receiving.{freshReceiver, receiverGood, receiptNumber}
+use Rattle.window.specs.Sending.{freshSender, sendOf, acknowledgeOf}
+use Rattle.window.specs.Receiving.{freshReceiver, receiverInOrder, receiptNumber}
 use Rattle.window.specs.History.{noteGrant}
-use Rattle.window.specs.BothEnds.{Flow, Event, grant, deliver, tell, deliverPr, noteTelling, delivered, deliveredPr, step, run, NoneRefused}
+use Rattle.window.specs.BothEnds.{Flow, FlowEvent, grant, deliver, tell, deliverPr, noteTelling, delivered, deliveredPr, flowStep, flowRun, NoneRefused}
 use Rattle.window.proofs.Ends.{senderAt, send-open, send-closed, acknowledge-taken, taken-good, fresh-good, tell-told, tell-good, receive-taken}
 
--- the PS of the n packets from s on
+-- the PS of the n packets starting at true number s
 abbrev numbersFrom : ℕ → ℕ → List ℕ
 numbersFrom s zero = []
 numbersFrom s (suc n) = s % 16 ∷ numbersFrom (suc s) n
@@ -57,7 +58,7 @@ map-more : (ts : List ℕ) (t : ℕ) → wrapped ts ++ (t % 16 ∷ []) ≡ wrapp
 map-more [] t = refl
 map-more (x ∷ ts) t = ap (λ (l : List ℕ). x % 16 ∷ l) (map-more ts t)
 
--- answers that are all 0
+-- all refusal numbers are 0
 abbrev AllDone : List ℕ → Type 0
 AllDone l = l ≡ replicate (length l) 0
 
@@ -76,25 +77,25 @@ record Kept (f : Flow) : Type 0 where
   sender-at : f .sender ≡ senderAt acknowledged (taken + on-the-way)
   window : taken + on-the-way ≤ acknowledged + 15
   receiver-at : f .receiver .expected ≡ packet (taken % 16)
-  receiver-good : receiverGood (f .receiver) ≡ true
+  receiver-good : receiverInOrder (f .receiver) ≡ true
   packets-are : f .packets ≡ numbersFrom taken on-the-way
   tellings-are : f .tellings ≡ wrapped told
   rising : Rising acknowledged taken told
   all-done : AllDone (f .numbers)
 
--- ---- each event keeps it
+-- ---- each event preserves it
 
--- the flow by what the sending end answered
+-- the flow after the answer r of the sending end
 abbrev grantedBy : Flow → Sent → Flow
 grantedBy f r = record {
-  sender = r .end;
+  sender = r .next;
   receiver = f .receiver;
   packets = noteGrant (r .answer) (f .packets);
   tellings = f .tellings;
   numbers = f .numbers;
 }
 
-grant-keeps : (f : Flow) → Kept f → Kept (step f grant)
+grant-keeps : (f : Flow) → Kept f → Kept (flowStep f grant)
 grant-keeps f k = elim (decLe (k .taken + k .on-the-way) (k .acknowledged + 14)) [
   | yes h ↦
       subst (λ (r : Sent). Kept (grantedBy f r))
@@ -136,7 +137,7 @@ grant-keeps f k = elim (decLe (k .taken + k .on-the-way) (k .acknowledged + 14))
     ahead : k .acknowledged ≤ k .taken + k .on-the-way
     ahead = omega (arith, rising-ends (k .acknowledged) (k .taken) (k .told) (k .rising))
 
-deliver-keeps : (f : Flow) → Kept f → Kept (step f deliver)
+deliver-keeps : (f : Flow) → Kept f → Kept (flowStep f deliver)
 deliver-keeps f k = subst (λ (l : List ℕ). Kept (delivered f l)) (sym (k .packets-are)) (go (k .on-the-way) refl)
   where
     go : (n : ℕ) → k .on-the-way ≡ n → Kept (delivered f (numbersFrom (k .taken) n))
@@ -150,8 +151,8 @@ deliver-keeps f k = subst (λ (l : List ℕ). Kept (delivered f l)) (sym (k .pac
           told = k .told;
           sender-at = k .sender-at ∙ ap (senderAt (k .acknowledged)) (omega arith);
           window = omega (arith, k .window);
-          receiver-at = ap (λ (a : Received). a .end .expected) r;
-          receiver-good = ap (λ (a : Received). receiverGood (a .end)) r ∙ taken-good (suc (k .taken)) (f .receiver .untold + 1);
+          receiver-at = ap (λ (a : Received). a .next .expected) r;
+          receiver-good = ap (λ (a : Received). receiverInOrder (a .next)) r ∙ taken-good (suc (k .taken)) (f .receiver .untold + 1);
           packets-are = refl;
           tellings-are = k .tellings-are;
           rising = rising-wider (k .acknowledged) (k .taken) (suc (k .taken)) (k .told) (omega arith) (k .rising);
@@ -159,7 +160,7 @@ deliver-keeps f k = subst (λ (l : List ℕ). Kept (delivered f l)) (sym (k .pac
               subst (λ (x : ℕ). AllDone (f .numbers ++ (x ∷ []))) (sym (ap (λ (a : Received). receiptNumber (a .answer)) r)) (done-more (f .numbers) (k .all-done));
         }
 
-tell-keeps : (f : Flow) → Kept f → Kept (step f tell)
+tell-keeps : (f : Flow) → Kept f → Kept (flowStep f tell)
 tell-keeps f k =
     let r = tell-told (f .receiver) (k .receiver-good) in
     record {
@@ -169,7 +170,7 @@ tell-keeps f k =
       told = k .told ++ (k .taken ∷ []);
       sender-at = k .sender-at;
       window = k .window;
-      receiver-at = ap (λ (a : Told). a .end .expected) r ∙ k .receiver-at;
+      receiver-at = ap (λ (a : Told). a .next .expected) r ∙ k .receiver-at;
       receiver-good = tell-good (f .receiver) (k .receiver-good);
       packets-are = k .packets-are;
       tellings-are =
@@ -180,7 +181,7 @@ tell-keeps f k =
       all-done = k .all-done;
     }
 
-deliverPr-keeps : (f : Flow) → Kept f → Kept (step f deliverPr)
+deliverPr-keeps : (f : Flow) → Kept f → Kept (flowStep f deliverPr)
 deliverPr-keeps f k = subst (λ (l : List ℕ). Kept (deliveredPr f l)) (sym (k .tellings-are)) (go (k .told) (k .rising))
   where
     go : (ts : List ℕ) → Rising (k .acknowledged) (k .taken) ts → Kept (deliveredPr f (wrapped ts))
@@ -188,7 +189,7 @@ deliverPr-keeps f k = subst (λ (l : List ℕ). Kept (deliveredPr f l)) (sym (k 
     go (t ∷ ts) h =
         let far : t ≤ k .taken = rising-ends t (k .taken) ts (h .1) in
         let near : k .acknowledged ≤ t = h .0 in
-        let r : acknowledgeOf (f .sender) (t % 16) ≡ record { verdict = Done; end = senderAt t (k .taken + k .on-the-way) } =
+        let r : acknowledgeOf (f .sender) (t % 16) ≡ record { verdict = Done; next = senderAt t (k .taken + k .on-the-way) } =
         ap (λ (s : Sender). acknowledgeOf s (t % 16)) (k .sender-at)
         ∙ acknowledge-taken (k .acknowledged) t (k .taken + k .on-the-way) near (omega arith) (k .window) in
         record {
@@ -196,7 +197,7 @@ deliverPr-keeps f k = subst (λ (l : List ℕ). Kept (deliveredPr f l)) (sym (k 
           taken = k .taken;
           on-the-way = k .on-the-way;
           told = ts;
-          sender-at = ap (λ (a : Acknowledged). a .end) r;
+          sender-at = ap (λ (a : Acknowledged). a .next) r;
           window = omega (arith, k .window);
           receiver-at = k .receiver-at;
           receiver-good = k .receiver-good;
@@ -207,18 +208,18 @@ deliverPr-keeps f k = subst (λ (l : List ℕ). Kept (deliveredPr f l)) (sym (k 
               subst (λ (x : ℕ). AllDone (f .numbers ++ (x ∷ []))) (sym (ap (λ (a : Acknowledged). verdictNumber (a .verdict)) r)) (done-more (f .numbers) (k .all-done));
         }
 
-step-keeps : (f : Flow) (e : Event) → Kept f → Kept (step f e)
+step-keeps : (f : Flow) (e : FlowEvent) → Kept f → Kept (flowStep f e)
 step-keeps f grant k = grant-keeps f k
 step-keeps f deliver k = deliver-keeps f k
 step-keeps f tell k = tell-keeps f k
 step-keeps f deliverPr k = deliverPr-keeps f k
 
-run-keeps : (f : Flow) (events : List Event) → Kept f → Kept (run f events)
-unfolding run
+run-keeps : (f : Flow) (events : List FlowEvent) → Kept f → Kept (flowRun f events)
+unfolding flowRun
 run-keeps f [] k = k
-run-keeps f (e ∷ es) k = run-keeps (step f e) es (step-keeps f e k)
+run-keeps f (e ∷ es) k = run-keeps (flowStep f e) es (step-keeps f e k)
 
-pub none-refused : (events : List Event) → NoneRefused events
+pub none-refused : (events : List FlowEvent) → NoneRefused events
 none-refused events =
     run-keeps (record { sender = freshSender; receiver = freshReceiver; packets = []; tellings = []; numbers = [] }) events (record {
       acknowledged = 0;

@@ -1,4 +1,5 @@
--- What is claimed of one end over any history of calls. An end that started fresh stands at the true numbers of its history; each call keeps that.
+-- The claims about one end over any history of calls. The numbers of an end that started fresh are
+-- the true numbers of its history modulo 16; each call preserves that.
 -- Assumes nothing.
 use mathlib.Core.Path.{_≡_, refl, sym, ap, _∙_, subst}
 use mathlib.Core.Bool.{true}
@@ -14,15 +15,15 @@ use Rattle.refusal.specs.declared.Refusal.{Refusal}
 use Rattle.refusal.specs.declared.Verdict.the-variants.{Done, Refused}
 use Rattle.sequence.specs.Modular.{distance}
 use Rattle.sequence.specs.Numbers.{packet}
-use Rattle.receiver.specs.declared.Receipt.the-variants.{Refused as NotTaken}
-use Rattle.sender.specs.declared.Sender.{Sender}
-use Rattle.sender.specs.declared.Sent.{Sent}
-use Rattle.sender.specs.declared.Acknowledged.{Acknowledged}
-use Rattle.receiver.specs.declared.Receiver.{Receiver}
-use Rattle.receiver.specs.declared.Received.{Received}
-use Rattle.receiver.specs.declared.Told.{Told}
-use Rattle.sender.specs.Sending.{freshSender, senderGood, sendOf, acknowledgeOf}
-use Rattle.receiver.specs.Receiving.{freshReceiver, receiverGood, receiveOf, tellOf}
+use Rattle.window.specs.declared.receiver.Receipt.the-variants.{Refused as NotTaken}
+use Rattle.window.specs.declared.sender.Sender.{Sender}
+use Rattle.window.specs.declared.sender.Sent.{Sent}
+use Rattle.window.specs.declared.sender.Acknowledged.{Acknowledged}
+use Rattle.window.specs.declared.receiver.Receiver.{Receiver}
+use Rattle.window.specs.declared.receiver.Received.{Received}
+use Rattle.window.specs.declared.receiver.Told.{Told}
+use Rattle.window.specs.Sending.{freshSender, senderInOrder, sendOf, acknowledgeOf}
+use Rattle.window.specs.Receiving.{freshReceiver, receiverInOrder, receiveOf, tellOf}
 use Rattle.window.specs.History.{Numbered, SenderCall, send, acknowledge, SenderHistory, noteGrant, notePr, senderStep, senderRun, senderHistory, SenderClaim, ReceiverCall, receive, tell, ReceiverHistory, noteReceipt, receiverStep, receiverRun, ReceiverClaim}
 use Rattle.window.proofs.Ends.{senderAt, sender-good, send-open, send-closed, acknowledge-cases, fresh-good, taken-good, tell-told, tell-good, receive-taken, receive-cases}
 
@@ -31,7 +32,7 @@ use Rattle.window.proofs.Ends.{senderAt, sender-good, send-open, send-c
 pub length-more : (l : List ℕ) (x : ℕ) → length (l ++ (x ∷ [])) ≡ suc (length l)
 length-more l x = length-append l (x ∷ []) ∙ add-one (length l)
 
--- one more number at the end, which is its place modulo 16
+-- one more number at the end, which is its index modulo 16
 numbered-more : (l : List ℕ) → Numbered l → Numbered (l ++ (length l % 16 ∷ []))
 numbered-more l n i h = elim (decLt i (length l)) [
   | yes b ↦ List·getD-append l (length l % 16 ∷ []) 0 i b ∙ n i b
@@ -48,31 +49,31 @@ record SenderKept (s : Sender) (granted : List ℕ) (acknowledged : ℕ) : Type 
   high : length granted ≤ acknowledged + 15
   numbered : Numbered granted
 
-send-keeps : (s : Sender) (l : List ℕ) (a : ℕ) → SenderKept s l a → SenderKept (sendOf s .end) (noteGrant (sendOf s .answer) l) a
+send-keeps : (s : Sender) (l : List ℕ) (a : ℕ) → SenderKept s l a → SenderKept (sendOf s .next) (noteGrant (sendOf s .answer) l) a
 send-keeps s l a k = elim (decLe (length l) (a + 14)) [
   | yes h ↦
-      subst (λ (r : Sent). SenderKept (r .end) (noteGrant (r .answer) l) a) (sym (ap sendOf (k .at) ∙ send-open a (length l) (k .low) h)) (record {
+      subst (λ (r : Sent). SenderKept (r .next) (noteGrant (r .answer) l) a) (sym (ap sendOf (k .at) ∙ send-open a (length l) (k .low) h)) (record {
         at = ap (senderAt a) (sym (length-more l (length l % 16)));
         low = omega (arith, k .low, length-more l (length l % 16));
         high = omega (arith, length-more l (length l % 16));
         numbered = numbered-more l (k .numbered);
       })
   | no h ↦
-      subst (λ (r : Sent). SenderKept (r .end) (noteGrant (r .answer) l) a)
+      subst (λ (r : Sent). SenderKept (r .next) (noteGrant (r .answer) l) a)
       (sym (ap sendOf (k .at) ∙ send-closed a (length l) (omega (arith, k .high))))
       (record { at = refl; low = k .low; high = k .high; numbered = k .numbered })
 ]
 
 acknowledge-keeps : (s : Sender) (l : List ℕ) (a pr : ℕ) → SenderKept s l a
-    → SenderKept (acknowledgeOf s pr .end) l (notePr (acknowledgeOf s pr .verdict) pr a)
+    → SenderKept (acknowledgeOf s pr .next) l (notePr (acknowledgeOf s pr .verdict) pr a)
 acknowledge-keeps s l a pr k = go (acknowledge-cases a (length l) pr (k .low) (k .high))
   where
     Kept : Acknowledged → Type 0
-    Kept r = SenderKept (r .end) l (notePr (r .verdict) pr a)
+    Kept r = SenderKept (r .next) l (notePr (r .verdict) pr a)
 
     go : ((a + distance 16 a pr ≤ length l)
-        × (acknowledgeOf (senderAt a (length l)) pr ≡ record { verdict = Done; end = senderAt (a + distance 16 a pr) (length l) }))
-        ⊎ ((why : Refusal) × (acknowledgeOf (senderAt a (length l)) pr ≡ record { verdict = Refused why; end = senderAt a (length l) }))
+        × (acknowledgeOf (senderAt a (length l)) pr ≡ record { verdict = Done; next = senderAt (a + distance 16 a pr) (length l) }))
+        ⊎ ((why : Refusal) × (acknowledgeOf (senderAt a (length l)) pr ≡ record { verdict = Refused why; next = senderAt a (length l) }))
         → Kept (acknowledgeOf s pr)
     go (inl w) =
         subst Kept (sym (ap (λ (t : Sender). acknowledgeOf t pr) (k .at) ∙ w .1)) (record {
@@ -89,24 +90,24 @@ acknowledge-keeps s l a pr k = go (acknowledge-cases a (length l) pr (k .low) (k
           numbered = k .numbered;
         })
 
-sender-keeps : (h : SenderHistory) (calls : List SenderCall) → SenderKept (h .end) (h .granted) (h .acknowledged)
-    → SenderKept (senderRun h calls .end) (senderRun h calls .granted) (senderRun h calls .acknowledged)
+sender-keeps : (h : SenderHistory) (calls : List SenderCall) → SenderKept (h .next) (h .granted) (h .acknowledged)
+    → SenderKept (senderRun h calls .next) (senderRun h calls .granted) (senderRun h calls .acknowledged)
 unfolding senderRun
 sender-keeps h [] k = k
-sender-keeps h (send ∷ cs) k = sender-keeps (senderStep h send) cs (send-keeps (h .end) (h .granted) (h .acknowledged) k)
+sender-keeps h (send ∷ cs) k = sender-keeps (senderStep h send) cs (send-keeps (h .next) (h .granted) (h .acknowledged) k)
 sender-keeps h (acknowledge pr ∷ cs) k =
-    sender-keeps (senderStep h (acknowledge pr)) cs (acknowledge-keeps (h .end) (h .granted) (h .acknowledged) pr k)
+    sender-keeps (senderStep h (acknowledge pr)) cs (acknowledge-keeps (h .next) (h .granted) (h .acknowledged) pr k)
 
 pub sender-claim : (calls : List SenderCall) → SenderClaim calls
 sender-claim calls =
-    let k = sender-keeps (record { end = freshSender; granted = []; acknowledged = 0 }) calls (record {
+    let k = sender-keeps (record { next = freshSender; granted = []; acknowledged = 0 }) calls (record {
       at = refl;
       low = zero-le;
       high = zero-le;
       numbered = λ i h. absurd (omega arith);
     }) in
     record {
-      in-order = ap senderGood (k .at) ∙ sender-good (senderHistory calls .acknowledged) (length (senderHistory calls .granted));
+      in-order = ap senderInOrder (k .at) ∙ sender-good (senderHistory calls .acknowledged) (length (senderHistory calls .granted));
       at-most-15 = k .high;
       none-ahead = k .low;
       numbered = k .numbered;
@@ -116,16 +117,16 @@ sender-claim calls =
 
 record ReceiverKept (r : Receiver) (taken : List ℕ) : Type 0 where
   at : r .expected ≡ packet (length taken % 16)
-  good : receiverGood r ≡ true
+  good : receiverInOrder r ≡ true
   numbered : Numbered taken
 
-receive-keeps : (r : Receiver) (l : List ℕ) (ps : ℕ) → ReceiverKept r l → ReceiverKept (receiveOf r ps .end) (noteReceipt (receiveOf r ps .answer) ps l)
+receive-keeps : (r : Receiver) (l : List ℕ) (ps : ℕ) → ReceiverKept r l → ReceiverKept (receiveOf r ps .next) (noteReceipt (receiveOf r ps .answer) ps l)
 receive-keeps r l ps k = go (receive-cases r ps (length l) (k .good) (k .at))
   where
     Kept : Received → Type 0
-    Kept a = ReceiverKept (a .end) (noteReceipt (a .answer) ps l)
+    Kept a = ReceiverKept (a .next) (noteReceipt (a .answer) ps l)
 
-    go : (ps ≡ length l % 16) ⊎ ((why : Refusal) × (receiveOf r ps ≡ record { answer = NotTaken why; end = r })) → Kept (receiveOf r ps)
+    go : (ps ≡ length l % 16) ⊎ ((why : Refusal) × (receiveOf r ps ≡ record { answer = NotTaken why; next = r })) → Kept (receiveOf r ps)
     go (inl e) =
         subst Kept (sym (ap (receiveOf r) e ∙ receive-taken r (length l) (k .good) (k .at))) (record {
           at = ap (λ (n : ℕ). packet (n % 16)) (sym (length-more l ps));
@@ -134,23 +135,23 @@ receive-keeps r l ps k = go (receive-cases r ps (length l) (k .good) (k .at))
         })
     go (inr w) = subst Kept (sym (w .1)) k
 
-tell-keeps : (r : Receiver) (l : List ℕ) → ReceiverKept r l → ReceiverKept (tellOf r .end) l
+tell-keeps : (r : Receiver) (l : List ℕ) → ReceiverKept r l → ReceiverKept (tellOf r .next) l
 tell-keeps r l k = record {
-  at = ap (λ (t : Told). t .end .expected) (tell-told r (k .good)) ∙ k .at;
+  at = ap (λ (t : Told). t .next .expected) (tell-told r (k .good)) ∙ k .at;
   good = tell-good r (k .good);
   numbered = k .numbered;
 }
 
-receiver-keeps : (h : ReceiverHistory) (calls : List ReceiverCall) → ReceiverKept (h .end) (h .taken)
-    → ReceiverKept (receiverRun h calls .end) (receiverRun h calls .taken)
+receiver-keeps : (h : ReceiverHistory) (calls : List ReceiverCall) → ReceiverKept (h .next) (h .taken)
+    → ReceiverKept (receiverRun h calls .next) (receiverRun h calls .taken)
 unfolding receiverRun
 receiver-keeps h [] k = k
-receiver-keeps h (receive ps ∷ cs) k = receiver-keeps (receiverStep h (receive ps)) cs (receive-keeps (h .end) (h .taken) ps k)
-receiver-keeps h (tell ∷ cs) k = receiver-keeps (receiverStep h tell) cs (tell-keeps (h .end) (h .taken) k)
+receiver-keeps h (receive ps ∷ cs) k = receiver-keeps (receiverStep h (receive ps)) cs (receive-keeps (h .next) (h .taken) ps k)
+receiver-keeps h (tell ∷ cs) k = receiver-keeps (receiverStep h tell) cs (tell-keeps (h .next) (h .taken) k)
 
 pub receiver-claim : (calls : List ReceiverCall) → ReceiverClaim calls
 receiver-claim calls =
-    let k = receiver-keeps (record { end = freshReceiver; taken = [] }) calls (record {
+    let k = receiver-keeps (record { next = freshReceiver; taken = [] }) calls (record {
       at = refl;
       good = fresh-good;
       numbered = λ i h. absurd (omega arith);

@@ -1,4 +1,6 @@
--- What is proved of the flow window's definitions.
+-- Good order of the receiving end.
+pub mod Order
+-- The proofs of the claims.
 pub mod Ends
 pub mod History
 pub mod BothEnds

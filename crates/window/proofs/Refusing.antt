@@ -1,4 +1,5 @@
--- Refusals change nothing: a call that is done has the number 0, and a refused one is told by the given end.
+-- Refusals change nothing: a call that is done has the number 0, and the definition of a refused
+-- one returns the given end.
 -- Assumes nothing.
 use mathlib.Core.Path.{_≡_, refl}
 use mathlib.Core.Bool.{Bool, true, false, cond}
@@ -8,38 +9,38 @@ use Rattle.refusal.specs.declared.Refusal.the-variants.{NotInOrder}
 use Rattle.refusal.specs.declared.Verdict.{Verdict}
 use Rattle.refusal.specs.declared.Verdict.the-variants.{Done, Refused}
 use Rattle.refusal.specs.Numbers.{verdictNumber}
-use Rattle.sender.specs.declared.Sender.{Sender}
-use Rattle.receiver.specs.declared.Receiver.{Receiver}
-use Rattle.receiver.specs.declared.Told.{Told}
-use Rattle.receiver.specs.declared.Telling.the-variants.{Tell, Refused as NotTold}
-use Rattle.sender.specs.Sending.{grantNumber, grantPs, sendVerdict, sendBy, sendOf, acknowledgeVerdict, acknowledgeBy, acknowledgeOf}
-use Rattle.receiver.specs.Receiving.{receiverGood, receiptNumber, receiptDue, receiveVerdict, receiveBy, receiveOf, tellingNumber, tellingPr, tellOf}
+use Rattle.window.specs.declared.sender.Sender.{Sender}
+use Rattle.window.specs.declared.receiver.Receiver.{Receiver}
+use Rattle.window.specs.declared.receiver.Told.{Told}
+use Rattle.window.specs.declared.receiver.Telling.the-variants.{Tell, Refused as NotTold}
+use Rattle.window.specs.Sending.{grantNumber, grantPs, sendVerdict, sendBy, sendOf, acknowledgeVerdict, acknowledgeBy, acknowledgeOf}
+use Rattle.window.specs.Receiving.{receiverInOrder, receiptNumber, receiptDue, receiveVerdict, receiveBy, receiveOf, tellingNumber, tellingPr, tellOf}
 use Rattle.window.specs.Refusing.{RefusalsChangeNothing}
 
-send-by : (v : Verdict) (s : Sender) → grantNumber (sendBy v s .answer) ≢ 0 → (grantPs (sendBy v s .answer) ≡ 0) × (sendBy v s .end ≡ s)
+send-by : (v : Verdict) (s : Sender) → grantNumber (sendBy v s .answer) ≢ 0 → (grantPs (sendBy v s .answer) ≡ 0) × (sendBy v s .next ≡ s)
 send-by Done s h = absurd (h refl)
 send-by (Refused why) s h = (refl, refl)
 
-acknowledge-by : (v : Verdict) (s : Sender) (pr : ℕ) → verdictNumber (acknowledgeBy v s pr .verdict) ≢ 0 → acknowledgeBy v s pr .end ≡ s
+acknowledge-by : (v : Verdict) (s : Sender) (pr : ℕ) → verdictNumber (acknowledgeBy v s pr .verdict) ≢ 0 → acknowledgeBy v s pr .next ≡ s
 acknowledge-by Done s pr h = absurd (h refl)
 acknowledge-by (Refused why) s pr h = refl
 
 receive-by : (v : Verdict) (r : Receiver) → receiptNumber (receiveBy v r .answer) ≢ 0
-    → (receiptDue (receiveBy v r .answer) ≡ false) × (receiveBy v r .end ≡ r)
+    → (receiptDue (receiveBy v r .answer) ≡ false) × (receiveBy v r .next ≡ r)
 receive-by Done r h = absurd (h refl)
 receive-by (Refused why) r h = (refl, refl)
 
-tell-by : (r : Receiver) → tellingNumber (tellOf r .answer) ≢ 0 → (tellingPr (tellOf r .answer) ≡ 0) × (tellOf r .end ≡ r)
+tell-by : (r : Receiver) → tellingNumber (tellOf r .answer) ≢ 0 → (tellingPr (tellOf r .answer) ≡ 0) × (tellOf r .next ≡ r)
 unfolding tellOf
-tell-by r h = go (receiverGood r) h
+tell-by r h = go (receiverInOrder r) h
   where
     told : Bool → Told
     told b =
         cond b
-        (record { answer = Tell (r .expected); end = record { expected = r .expected; first = r .first; untold = 0 } })
-        (record { answer = NotTold NotInOrder; end = r })
+        (record { answer = Tell (r .expected); next = record { expected = r .expected; first = r .first; untold = 0 } })
+        (record { answer = NotTold NotInOrder; next = r })
 
-    go : (b : Bool) → tellingNumber (told b .answer) ≢ 0 → (tellingPr (told b .answer) ≡ 0) × (told b .end ≡ r)
+    go : (b : Bool) → tellingNumber (told b .answer) ≢ 0 → (tellingPr (told b .answer) ≡ 0) × (told b .next ≡ r)
     go true h = absurd (h refl)
     go false h = (refl, refl)
 

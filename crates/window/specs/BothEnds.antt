@@ -1,20 +1,23 @@
--- The two ends together, with nothing lost between them: no end ever refuses a PS or a PR. proofs/BothEnds.antt proves it.
+-- The claim about both ends together (document 01, "The two counters"): if packets and PR are
+-- delivered in the order in which they were sent and none is lost, no PS and no PR that is
+-- delivered is refused. (Asking for a PS may be refused with 9.) proofs/BothEnds.antt proves it.
 -- Assumes nothing.
 use mathlib.Core.Path.{_≡_}
 use mathlib.Core.List.{List, [], _∷_, _++_}
 use Prim.Native.Nat.{ℕ}
 use lib.ListN.{length, replicate}
 use Rattle.refusal.specs.Numbers.{verdictNumber}
-use Rattle.sender.specs.declared.Sender.{Sender}
-use Rattle.receiver.specs.declared.Receiver.{Receiver}
-use Rattle.receiver.specs.declared.Telling.{Telling}
-use Rattle.receiver.specs.declared.Telling.the-variants.{Tell, Refused as NotTold}
-use Rattle.sender.specs.Sending.{freshSender, sendOf, acknowledgeOf}
-use Rattle.receiver.specs.Receiving.{freshReceiver, receiveOf, receiptNumber, tellOf}
+use Rattle.window.specs.declared.sender.Sender.{Sender}
+use Rattle.window.specs.declared.receiver.Receiver.{Receiver}
+use Rattle.window.specs.declared.receiver.Telling.{Telling}
+use Rattle.window.specs.declared.receiver.Telling.the-variants.{Tell, Refused as NotTold}
+use Rattle.window.specs.Sending.{freshSender, sendOf, acknowledgeOf}
+use Rattle.window.specs.Receiving.{freshReceiver, receiveOf, receiptNumber, tellOf}
 use Rattle.window.specs.History.{noteGrant}
 
--- one direction of a circuit: its ends; the PS of the packets on the way, those sent first foremost; the PR on the way back, the same; and the
--- refusal number, 0 for done, that each PS and each PR got that was delivered
+-- one direction of a circuit: its two ends; `packets`, the PS of the packets sent and not yet
+-- delivered, the first one sent first; `tellings`, the same of the PR on the way back; and
+-- `numbers`, the refusal number, 0 for accepted, of each PS and each PR delivered so far
 pub record Flow : Type 0 where
   pub sender : Sender
   pub receiver : Receiver
@@ -22,65 +25,71 @@ pub record Flow : Type 0 where
   pub tellings : List ℕ
   pub numbers : List ℕ
 
--- what may happen, in any order: the sending end is asked for a PS, and a packet with it is on its way; the foremost packet is delivered; PR is
--- told, and on its way back; the foremost PR is delivered
-pub data Event : Type 0 where
-  grant : Event
-  deliver : Event
-  tell : Event
-  deliverPr : Event
+-- what may happen, in any order: the sending end is asked for a PS, and a packet is sent with it if
+-- one is granted (`grant`); the first packet on the way is delivered to the receiving end
+-- (`deliver`); the receiving end tells PR, which is sent back (`tell`); the first PR on the way is
+-- delivered to the sending end (`deliverPr`)
+pub data FlowEvent : Type 0 where
+  grant : FlowEvent
+  deliver : FlowEvent
+  tell : FlowEvent
+  deliverPr : FlowEvent
 
+-- a PR that is told is sent after those on the way
 abbrev pub noteTelling : Telling → List ℕ → List ℕ
 noteTelling (Tell pr) tellings = tellings ++ (pr .0 ∷ [])
 noteTelling (NotTold why) tellings = tellings
 
--- where nothing is on the way, nothing is delivered
+-- the first of these packets on the way is delivered; if there is none, nothing happens
 abbrev pub delivered : Flow → List ℕ → Flow
 delivered f [] = f
 delivered f (ps ∷ rest) = record {
   sender = f .sender;
-  receiver = receiveOf (f .receiver) ps .end;
+  receiver = receiveOf (f .receiver) ps .next;
   packets = rest;
   tellings = f .tellings;
   numbers = f .numbers ++ (receiptNumber (receiveOf (f .receiver) ps .answer) ∷ []);
 }
 
+-- the same of the PR on the way back
 abbrev pub deliveredPr : Flow → List ℕ → Flow
 deliveredPr f [] = f
 deliveredPr f (pr ∷ rest) = record {
-  sender = acknowledgeOf (f .sender) pr .end;
+  sender = acknowledgeOf (f .sender) pr .next;
   receiver = f .receiver;
   packets = f .packets;
   tellings = rest;
   numbers = f .numbers ++ (verdictNumber (acknowledgeOf (f .sender) pr .verdict) ∷ []);
 }
 
-abbrev pub step : Flow → Event → Flow
-step f grant = record {
-  sender = sendOf (f .sender) .end;
+-- one event
+abbrev pub flowStep : Flow → FlowEvent → Flow
+flowStep f grant = record {
+  sender = sendOf (f .sender) .next;
   receiver = f .receiver;
   packets = noteGrant (sendOf (f .sender) .answer) (f .packets);
   tellings = f .tellings;
   numbers = f .numbers;
 }
-step f deliver = delivered f (f .packets)
-step f tell = record {
+flowStep f deliver = delivered f (f .packets)
+flowStep f tell = record {
   sender = f .sender;
-  receiver = tellOf (f .receiver) .end;
+  receiver = tellOf (f .receiver) .next;
   packets = f .packets;
   tellings = noteTelling (tellOf (f .receiver) .answer) (f .tellings);
   numbers = f .numbers;
 }
-step f deliverPr = deliveredPr f (f .tellings)
+flowStep f deliverPr = deliveredPr f (f .tellings)
 
-unfoldable pub run : Flow → List Event → Flow
-run f [] = f
-run f (e ∷ es) = run (step f e) es
+-- a list of events
+unfoldable pub flowRun : Flow → List FlowEvent → Flow
+flowRun f [] = f
+flowRun f (e ∷ es) = flowRun (flowStep f e) es
 
--- from fresh ends, with nothing on the way
-abbrev pub flowAfter : List Event → Flow
-flowAfter events = run (record { sender = freshSender; receiver = freshReceiver; packets = []; tellings = []; numbers = [] }) events
+-- a list of events that starts from fresh ends with nothing on the way
+abbrev pub flowAfter : List FlowEvent → Flow
+flowAfter events = flowRun (record { sender = freshSender; receiver = freshReceiver; packets = []; tellings = []; numbers = [] }) events
 
--- whatever happens in whatever order, every PS and every PR delivered is accepted: no 10, 11, 12 or 16, nor any other refusal
-abbrev pub NoneRefused : List Event → Type 0
+-- every PS and every PR delivered is accepted: no refusal 10, 11, 12 or 16, nor any other
+abbrev pub NoneRefused : List FlowEvent → Type 0
 NoneRefused events = flowAfter events .numbers ≡ replicate (length (flowAfter events .numbers)) 0

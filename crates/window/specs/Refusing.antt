@@ -1,4 +1,5 @@
--- "A refusal returns its number, counts of 0, unused places 0 and the same state": document 01, "Refusal numbers", of the window's calls.
+-- The claim that refused calls of the window change nothing: document 01, "Refusal numbers": "A
+-- refusal returns its number, counts of 0, unused places 0 and the same state".
 -- proofs/Refusing.antt proves it.
 -- Assumes nothing.
 use mathlib.Core.Path.{_≡_}
@@ -6,14 +7,16 @@ use mathlib.Core.Bool.{false}
 use mathlib.Core.Logic.{_≢_}
 use Prim.Native.Nat.{ℕ}
 use Rattle.refusal.specs.Numbers.{verdictNumber}
-use Rattle.sender.specs.declared.Sender.{Sender}
-use Rattle.receiver.specs.declared.Receiver.{Receiver}
-use Rattle.sender.specs.Sending.{grantNumber, grantPs, sendOf, acknowledgeOf}
-use Rattle.receiver.specs.Receiving.{receiptNumber, receiptDue, receiveOf, tellingNumber, tellingPr, tellOf}
+use Rattle.window.specs.declared.sender.Sender.{Sender}
+use Rattle.window.specs.declared.receiver.Receiver.{Receiver}
+use Rattle.window.specs.Sending.{grantNumber, grantPs, sendOf, acknowledgeOf}
+use Rattle.window.specs.Receiving.{receiptNumber, receiptDue, receiveOf, tellingNumber, tellingPr, tellOf}
 
+-- a call whose refusal number is not 0 has the value 0 (the PS granted, the PR; for `receive`, PR
+-- is not due) and returns the end that it was given
 pub record RefusalsChangeNothing : Type 0 where
-  pub send : (s : Sender) → grantNumber (sendOf s .answer) ≢ 0 → (grantPs (sendOf s .answer) ≡ 0) × (sendOf s .end ≡ s)
-  pub acknowledge : (s : Sender) (pr : ℕ) → verdictNumber (acknowledgeOf s pr .verdict) ≢ 0 → acknowledgeOf s pr .end ≡ s
+  pub send : (s : Sender) → grantNumber (sendOf s .answer) ≢ 0 → (grantPs (sendOf s .answer) ≡ 0) × (sendOf s .next ≡ s)
+  pub acknowledge : (s : Sender) (pr : ℕ) → verdictNumber (acknowledgeOf s pr .verdict) ≢ 0 → acknowledgeOf s pr .next ≡ s
   pub receive : (r : Receiver) (ps : ℕ) → receiptNumber (receiveOf r ps .answer) ≢ 0
-      → (receiptDue (receiveOf r ps .answer) ≡ false) × (receiveOf r ps .end ≡ r)
-  pub tell : (r : Receiver) → tellingNumber (tellOf r .answer) ≢ 0 → (tellingPr (tellOf r .answer) ≡ 0) × (tellOf r .end ≡ r)
+      → (receiptDue (receiveOf r ps .answer) ≡ false) × (receiveOf r ps .next ≡ r)
+  pub tell : (r : Receiver) → tellingNumber (tellOf r .answer) ≢ 0 → (tellingPr (tellOf r .answer) ≡ 0) × (tellOf r .next ≡ r)

@@ -1,1 +1,5 @@
-// What is claimed of the ends of the flow window, each alone and both together: specs/ states it, proofs/ proves it. There is no code here.
+// The modulo 16 flow window (document 01, "The two counters"): its sending end and its receiving
+// end. specs/History.antt states what holds over any history of calls at one end, and
+// specs/BothEnds.antt what holds of both ends together.
+pub mod receiver;
+pub mod sender;

@@ -1,5 +1,6 @@
--- The claims hold. What is stored comes back by the laws of encoding. A refused call of an end hands the end back and no value, so that its bytes are
--- written as they were; other bytes are not written at all.
+-- Proofs of the claims. Encoding loses nothing by the laws in Stored.antt. A refused call returns
+-- the end that it was given and no value, so that its bytes stay as they were; bytes that encode no
+-- end are not written at all.
 -- Assumes nothing.
 use mathlib.Core.Path.{_≡_, refl, ap, _∙_, subst}
 use mathlib.Core.Bool.{Bool, true, false, cond}
@@ -13,16 +14,17 @@ use Rattle.refusal.specs.declared.Verdict.{Verdict}
 use Rattle.refusal.specs.declared.Verdict.the-variants.{Done, Refused}
 use Rattle.refusal.specs.Numbers.{verdictNumber}
 use Rattle.refusal.proofs.Numbers.{number-range}
-use Rattle.sender.specs.declared.Grant.{Grant}
-use Rattle.sender.specs.declared.Grant.the-variants.{Granted, Refused as NotGranted}
-use Rattle.sender.specs.Sending.{grantNumber, grantPs, sendOf, acknowledgeOf}
-use Rattle.receiver.specs.declared.Receipt.{Receipt}
-use Rattle.receiver.specs.declared.Receipt.the-variants.{Taken, Refused as NotTaken}
-use Rattle.receiver.specs.declared.Telling.{Telling}
-use Rattle.receiver.specs.declared.Telling.the-variants.{Tell, Refused as NotTold}
-use Rattle.receiver.specs.Receiving.{receiptNumber, receiptDue, receiveOf, tellingNumber, tellingPr, tellOf}
+use Rattle.window.specs.declared.sender.Grant.{Grant}
+use Rattle.window.specs.declared.sender.Grant.the-variants.{Granted, Refused as NotGranted}
+use Rattle.window.specs.Sending.{grantNumber, grantPs, sendOf, acknowledgeOf}
+use Rattle.window.specs.declared.receiver.Receipt.{Receipt}
+use Rattle.window.specs.declared.receiver.Receipt.the-variants.{Taken, Refused as NotTaken}
+use Rattle.window.specs.declared.receiver.Telling.{Telling}
+use Rattle.window.specs.declared.receiver.Telling.the-variants.{Tell, Refused as NotTold}
+use Rattle.window.specs.Receiving.{receiptNumber, receiptDue, receiveOf, tellingNumber, tellingPr, tellOf}
 use Rattle.window.proofs.Refusing.{refusals-change-nothing as ends-unchanged}
-use Rattle.window_bytes.specs.Stored.{code, flag, isSender, senderIn, senderBytes, grantCode, isReceiver, receiverIn, receiverBytes, receiptCode, tellingCode, freshSenderCode, freshSenderBytes, sendCode, sendBytes, acknowledgeCode, acknowledgeBytes, freshReceiverCode, freshReceiverBytes, receiveCode, receiveBytes, tellCode, tellBytes}
+use Rattle.little.specs.Little.{flag}
+use Rattle.window_bytes.specs.Stored.{answerWith, isSender, senderIn, senderBytes, grantAnswer, isReceiver, receiverIn, receiverBytes, receiptAnswer, tellingAnswer, freshSenderAnswer, freshSenderBytes, sendAnswer, sendBytes, acknowledgeAnswer, acknowledgeBytes, freshReceiverAnswer, freshReceiverBytes, receiveAnswer, receiveBytes, tellAnswer, tellBytes}
 use Rattle.window_bytes.specs.Claims.{RoundTrips, Unchanged, RefusalsChangeNothing}
 use Rattle.window_bytes.proofs.Stored.{sender-encoded, sender-bytes-back, receiver-encoded, receiver-back, receiver-bytes-back}
 
@@ -56,57 +58,57 @@ telling-small (NotTold why) = number-range why .1
 
 -- ---- refusals
 
--- a refusal told in its parts is one told by the answer
+-- `Unchanged` from the refusal number and the value of the answer
 unchanged : (number value : ℕ) (after before : List ℕ) → number ≤ 17 → (number ≢ 0 → (value ≡ 0) × (after ≡ before))
-    → Unchanged (code number value) after before
+    → Unchanged (answerWith number value) after before
 unchanged number value after before small told h =
     let k = told (λ (z : number ≡ 0). h (omega arith)) in (omega (arith, k .0), k .1)
 
--- bytes that fail the call's test are refused with 14 and stay
+-- bytes that fail the test of a call are refused with 14 and stay as they were
 tested : (t : Bool) (answer : ℕ) (bytes b : List ℕ) → (t ≡ true → Unchanged answer bytes b) → Unchanged (cond t answer 14) (cond t bytes b) b
 tested true answer bytes b told = told refl
 tested false answer bytes b told = λ h. (refl, refl)
 
--- a fresh end is refused by that test only
+-- the call that writes a fresh end is refused by that test only
 fresh : (t : Bool) (bytes b : List ℕ) → Unchanged (cond t 0 14) (cond t bytes b) b
 fresh t bytes b = tested t 0 bytes b (λ e h. absurd (h refl))
 
-send : (b : List ℕ) → Unchanged (sendCode b) (sendBytes b) b
-unfolding sendCode sendBytes
+send : (b : List ℕ) → Unchanged (sendAnswer b) (sendBytes b) b
+unfolding sendAnswer sendBytes
 send b =
     let a = sendOf (senderIn b) in
-    tested (isSender b) (grantCode (a .answer)) (senderBytes (a .end)) b (λ e.
-    unchanged (grantNumber (a .answer)) (grantPs (a .answer)) (senderBytes (a .end)) b (grant-small (a .answer)) (λ z.
+    tested (isSender b) (grantAnswer (a .answer)) (senderBytes (a .next)) b (λ e.
+    unchanged (grantNumber (a .answer)) (grantPs (a .answer)) (senderBytes (a .next)) b (grant-small (a .answer)) (λ z.
     let k = ends-unchanged .send (senderIn b) z in (k .0, ap senderBytes (k .1) ∙ sender-bytes-back b e)))
 
-acknowledge : (b : List ℕ) (pr : ℕ) → Unchanged (acknowledgeCode b pr) (acknowledgeBytes b pr) b
-unfolding acknowledgeCode acknowledgeBytes
+acknowledge : (b : List ℕ) (pr : ℕ) → Unchanged (acknowledgeAnswer b pr) (acknowledgeBytes b pr) b
+unfolding acknowledgeAnswer acknowledgeBytes
 acknowledge b pr =
     let a = acknowledgeOf (senderIn b) pr in
-    let none : code (verdictNumber (a .verdict)) 0 ≡ verdictNumber (a .verdict) = omega arith in
-    tested (isSender b) (verdictNumber (a .verdict)) (senderBytes (a .end)) b (λ e.
-    subst (λ (n : ℕ). Unchanged n (senderBytes (a .end)) b) none
-    (unchanged (verdictNumber (a .verdict)) 0 (senderBytes (a .end)) b (verdict-small (a .verdict)) (λ z.
+    let none : answerWith (verdictNumber (a .verdict)) 0 ≡ verdictNumber (a .verdict) = omega arith in
+    tested (isSender b) (verdictNumber (a .verdict)) (senderBytes (a .next)) b (λ e.
+    subst (λ (n : ℕ). Unchanged n (senderBytes (a .next)) b) none
+    (unchanged (verdictNumber (a .verdict)) 0 (senderBytes (a .next)) b (verdict-small (a .verdict)) (λ z.
     (refl, ap senderBytes (ends-unchanged .acknowledge (senderIn b) pr z) ∙ sender-bytes-back b e))))
 
-receive : (b : List ℕ) (ps : ℕ) → Unchanged (receiveCode b ps) (receiveBytes b ps) b
-unfolding receiveCode receiveBytes
+receive : (b : List ℕ) (ps : ℕ) → Unchanged (receiveAnswer b ps) (receiveBytes b ps) b
+unfolding receiveAnswer receiveBytes
 receive b ps =
     let a = receiveOf (receiverIn b) ps in
-    tested (isReceiver b) (receiptCode (a .answer)) (receiverBytes (a .end)) b (λ e.
-    unchanged (receiptNumber (a .answer)) (flag (receiptDue (a .answer))) (receiverBytes (a .end)) b (receipt-small (a .answer)) (λ z.
+    tested (isReceiver b) (receiptAnswer (a .answer)) (receiverBytes (a .next)) b (λ e.
+    unchanged (receiptNumber (a .answer)) (flag (receiptDue (a .answer))) (receiverBytes (a .next)) b (receipt-small (a .answer)) (λ z.
     let k = ends-unchanged .receive (receiverIn b) ps z in (ap flag (k .0), ap receiverBytes (k .1) ∙ receiver-bytes-back b e)))
 
-tell : (b : List ℕ) → Unchanged (tellCode b) (tellBytes b) b
-unfolding tellCode tellBytes
+tell : (b : List ℕ) → Unchanged (tellAnswer b) (tellBytes b) b
+unfolding tellAnswer tellBytes
 tell b =
     let a = tellOf (receiverIn b) in
-    tested (isReceiver b) (tellingCode (a .answer)) (receiverBytes (a .end)) b (λ e.
-    unchanged (tellingNumber (a .answer)) (tellingPr (a .answer)) (receiverBytes (a .end)) b (telling-small (a .answer)) (λ z.
+    tested (isReceiver b) (tellingAnswer (a .answer)) (receiverBytes (a .next)) b (λ e.
+    unchanged (tellingNumber (a .answer)) (tellingPr (a .answer)) (receiverBytes (a .next)) b (telling-small (a .answer)) (λ z.
     let k = ends-unchanged .tell (receiverIn b) z in (k .0, ap receiverBytes (k .1) ∙ receiver-bytes-back b e)))
 
 pub refusals-change-nothing : RefusalsChangeNothing
-unfolding freshSenderCode freshSenderBytes freshReceiverCode freshReceiverBytes
+unfolding freshSenderAnswer freshSenderBytes freshReceiverAnswer freshReceiverBytes
 refusals-change-nothing = record {
   sender-fresh = λ b. fresh (isSender b) _ b;
   send = send;

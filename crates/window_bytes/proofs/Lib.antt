@@ -1,4 +1,4 @@
--- What is proved of the ends in lent bytes.
+-- The proofs about the ends in lent bytes.
 
 pub mod Stored
 pub mod Calls

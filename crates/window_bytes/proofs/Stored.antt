@@ -1,4 +1,4 @@
--- Encoding and decoding undo each other: a list of the right length is its bytes, and a mark is its number.
+-- Encoding and decoding are inverse to each other.
 -- Assumes nothing.
 use mathlib.Core.Path.{_≡_, refl, ap, _∙_}
 use mathlib.Core.Bool.{Bool, true, false}
@@ -9,9 +9,10 @@ use lib.Dec.{leb, eqb}
 use lib.ListN.{length, getD, set}
 use borrow.Author.Tests.{leb-true, eqb-true}
 use Rattle.refusal.proofs.Checks.{both-true}
-use Rattle.sender.specs.declared.Sender.{Sender}
-use Rattle.receiver.specs.declared.Receiver.{Receiver}
-use Rattle.window_bytes.specs.Stored.{flag, isSender, senderIn, senderBytes, isReceiver, receiverIn, receiverBytes}
+use Rattle.window.specs.declared.sender.Sender.{Sender}
+use Rattle.window.specs.declared.receiver.Receiver.{Receiver}
+use Rattle.little.specs.Little.{flag}
+use Rattle.window_bytes.specs.Stored.{isSender, senderIn, senderBytes, isReceiver, receiverIn, receiverBytes}
 
 -- ---- lists of 2 and of 3
 
@@ -21,7 +22,7 @@ two-written (a ∷ []) x y h = absurd (omega arith)
 two-written (a ∷ c ∷ []) x y h = refl
 two-written (a ∷ c ∷ d ∷ b) x y h = absurd (omega arith)
 
--- of a list of two only the second is written
+-- only the second byte of two is written
 pub next-written : (b : List ℕ) (y : ℕ) → length b ≡ 2 → set b 1 y ≡ getD b 0 0 ∷ y ∷ []
 next-written [] y h = absurd (omega arith)
 next-written (a ∷ []) y h = absurd (omega arith)
@@ -67,7 +68,7 @@ pub receiver-length : (b : List ℕ) → isReceiver b ≡ true → length b ≡ 
 unfolding isReceiver
 receiver-length b h = eqb-true (length b) 3 (both-true (eqb (length b) 3) (leb (getD b 1 0) 1) h .0)
 
--- a mark that is 0 or 1 is the number of whether it is 1
+-- a byte that is 0 or 1 is the flag that it encodes
 flag-back : (n : ℕ) → n ≤ 1 → flag (eqb n 1) ≡ n
 flag-back zero h = refl
 flag-back (suc zero) h = refl

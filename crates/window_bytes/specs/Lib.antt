@@ -1,3 +1,3 @@
--- What the contracts of `window_bytes` cite, and what is claimed of it.
+-- The definitions that the contracts of `window_bytes` use, and the claims about them.
 pub mod Stored
 pub mod Claims

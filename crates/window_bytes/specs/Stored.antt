@@ -1,5 +1,7 @@
--- The ends of the flow window as lent bytes, and each call's answer as one number. What a call answers and how it moves an end is said by the
--- definitions of `sender` and `receiver`; here is only how both are stored.
+-- The ends of the flow window in lent bytes, and the answer of each call as one number. What a call
+-- answers and the next state of the end are defined in `window`, specs/Sending.antt and
+-- specs/Receiving.antt; this file defines how both are encoded. Document 01 does not say how a
+-- state is stored; of it only "Refusal numbers" is used here.
 -- Assumes nothing.
 use mathlib.Core.Bool.{Bool, cond, _&&_}
 use mathlib.Core.List.{List, [], _∷_}
@@ -8,73 +10,74 @@ use lib.Dec.{leb, eqb}
 use lib.ListN.{length, getD}
 use Rattle.refusal.specs.declared.Refusal.the-variants.{NotInOrder}
 use Rattle.refusal.specs.Numbers.{numberOf, verdictNumber}
+use Rattle.little.specs.Little.{flag}
 use Rattle.sequence.specs.Numbers.{packet}
-use Rattle.sender.specs.declared.Sender.{Sender}
-use Rattle.sender.specs.declared.Grant.{Grant}
-use Rattle.sender.specs.Sending.{freshSender, senderGood, grantNumber, grantPs, sendOf, acknowledgeOf}
-use Rattle.receiver.specs.declared.Receiver.{Receiver}
-use Rattle.receiver.specs.declared.Receipt.{Receipt}
-use Rattle.receiver.specs.declared.Telling.{Telling}
-use Rattle.receiver.specs.Receiving.{freshReceiver, receiverGood, receiptNumber, receiptDue, receiveOf, tellingNumber, tellingPr, tellOf}
+use Rattle.window.specs.declared.sender.Sender.{Sender}
+use Rattle.window.specs.declared.sender.Grant.{Grant}
+use Rattle.window.specs.Sending.{freshSender, senderInOrder, grantNumber, grantPs, sendOf, acknowledgeOf}
+use Rattle.window.specs.declared.receiver.Receiver.{Receiver}
+use Rattle.window.specs.declared.receiver.Receipt.{Receipt}
+use Rattle.window.specs.declared.receiver.Telling.{Telling}
+use Rattle.window.specs.Receiving.{freshReceiver, receiverInOrder, receiptNumber, receiptDue, receiveOf, tellingNumber, tellingPr, tellOf}
 
--- an answer as one number: the refusal number, and 256 times the value
-abbrev pub code : ℕ → ℕ → ℕ
-code number value = number + 256 * value
-
--- a flag as a number: 1 where it stands
-abbrev pub flag : Bool → ℕ
-flag b = cond b 1 0
+-- an answer as one number: the refusal number plus 256 times the value
+abbrev pub answerWith : ℕ → ℕ → ℕ
+answerWith number value = number + 256 * value
 
 -- ---- the sending end: 2 bytes, the edge and the next PS
 
--- any 2 bytes are an encoded end, in good order or not
+-- the bytes encode a sending end, in good order or not: there are 2
 unfoldable pub isSender : List ℕ → Bool
 isSender b = eqb (length b) 2
 
--- the end that the bytes say
+-- the end that the bytes encode
 abbrev pub senderIn : List ℕ → Sender
-senderIn b = record { edge = packet (getD b 0 0); next = packet (getD b 1 0) }
+senderIn b = record { edge = packet (getD b 0 0); ps = packet (getD b 1 0) }
 
 -- the bytes of an end
 abbrev pub senderBytes : Sender → List ℕ
-senderBytes s = s .edge .0 ∷ s .next .0 ∷ []
+senderBytes s = s .edge .0 ∷ s .ps .0 ∷ []
 
--- the value of a grant is the PS
-abbrev pub grantCode : Grant → ℕ
-grantCode g = code (grantNumber g) (grantPs g)
+-- the answer to `send`: the value is the PS granted
+abbrev pub grantAnswer : Grant → ℕ
+grantAnswer g = answerWith (grantNumber g) (grantPs g)
 
--- a fresh end is written whatever stood there; another length is refused with 14, and nothing is written
-unfoldable pub freshSenderCode : List ℕ → ℕ
-freshSenderCode b = cond (isSender b) 0 (numberOf NotInOrder)
+-- a fresh end: any 2 bytes are overwritten with it; another number of bytes is refused with 14, and
+-- nothing is written
+unfoldable pub freshSenderAnswer : List ℕ → ℕ
+freshSenderAnswer b = cond (isSender b) 0 (numberOf NotInOrder)
 
+-- the bytes afterwards
 unfoldable pub freshSenderBytes : List ℕ → List ℕ
 freshSenderBytes b = cond (isSender b) (senderBytes freshSender) b
 
--- 1 where the bytes are an end in good order, else 0
-unfoldable pub senderOrder : List ℕ → ℕ
-senderOrder b = flag (isSender b && senderGood (senderIn b))
+-- 1 if the bytes encode a sending end in good order, else 0
+unfoldable pub senderOrderAnswer : List ℕ → ℕ
+senderOrderAnswer b = flag (isSender b && senderInOrder (senderIn b))
 
--- bytes that are no encoded end are refused with 14, and nothing is written
-unfoldable pub sendCode : List ℕ → ℕ
-sendCode b = cond (isSender b) (grantCode (sendOf (senderIn b) .answer)) (numberOf NotInOrder)
+-- asking for a PS; bytes that encode no sending end are refused with 14, and nothing is written
+unfoldable pub sendAnswer : List ℕ → ℕ
+sendAnswer b = cond (isSender b) (grantAnswer (sendOf (senderIn b) .answer)) (numberOf NotInOrder)
 
+-- the bytes afterwards
 unfoldable pub sendBytes : List ℕ → List ℕ
-sendBytes b = cond (isSender b) (senderBytes (sendOf (senderIn b) .end)) b
+sendBytes b = cond (isSender b) (senderBytes (sendOf (senderIn b) .next)) b
 
--- taking a PR has no value to answer
-unfoldable pub acknowledgeCode : List ℕ → ℕ → ℕ
-acknowledgeCode b pr = cond (isSender b) (verdictNumber (acknowledgeOf (senderIn b) pr .verdict)) (numberOf NotInOrder)
+-- taking a received PR: the answer is the refusal number alone, without a value
+unfoldable pub acknowledgeAnswer : List ℕ → ℕ → ℕ
+acknowledgeAnswer b pr = cond (isSender b) (verdictNumber (acknowledgeOf (senderIn b) pr .verdict)) (numberOf NotInOrder)
 
+-- the bytes afterwards
 unfoldable pub acknowledgeBytes : List ℕ → ℕ → List ℕ
-acknowledgeBytes b pr = cond (isSender b) (senderBytes (acknowledgeOf (senderIn b) pr .end)) b
+acknowledgeBytes b pr = cond (isSender b) (senderBytes (acknowledgeOf (senderIn b) pr .next)) b
 
 -- ---- the receiving end: 3 bytes, the expected PS, the first-packet mark as 0 or 1, and the count
 
--- a mark over 1 is no encoded end
+-- the bytes encode a receiving end, in good order or not: there are 3, and the mark is 0 or 1
 unfoldable pub isReceiver : List ℕ → Bool
 isReceiver b = eqb (length b) 3 && leb (getD b 1 0) 1
 
--- the end that the bytes say
+-- the end that the bytes encode
 abbrev pub receiverIn : List ℕ → Receiver
 receiverIn b = record { expected = packet (getD b 0 0); first = eqb (getD b 1 0) 1; untold = getD b 2 0 }
 
@@ -82,34 +85,40 @@ receiverIn b = record { expected = packet (getD b 0 0); first = eqb (getD b 1 0)
 abbrev pub receiverBytes : Receiver → List ℕ
 receiverBytes r = r .expected .0 ∷ flag (r .first) ∷ r .untold ∷ []
 
--- the value of a receipt is 1 where PR is due
-abbrev pub receiptCode : Receipt → ℕ
-receiptCode r = code (receiptNumber r) (flag (receiptDue r))
+-- the answer to `receive`: the value is 1 if PR is due, else 0
+abbrev pub receiptAnswer : Receipt → ℕ
+receiptAnswer r = answerWith (receiptNumber r) (flag (receiptDue r))
 
--- the value of a telling is the PR
-abbrev pub tellingCode : Telling → ℕ
-tellingCode t = code (tellingNumber t) (tellingPr t)
+-- the answer to `tell`: the value is PR
+abbrev pub tellingAnswer : Telling → ℕ
+tellingAnswer t = answerWith (tellingNumber t) (tellingPr t)
 
--- a fresh end is written whatever stood there: only the length counts, not the mark
-unfoldable pub freshReceiverCode : List ℕ → ℕ
-freshReceiverCode b = cond (eqb (length b) 3) 0 (numberOf NotInOrder)
+-- a fresh end: any 3 bytes are overwritten with it, whatever the mark was; another number of bytes
+-- is refused with 14, and nothing is written
+unfoldable pub freshReceiverAnswer : List ℕ → ℕ
+freshReceiverAnswer b = cond (eqb (length b) 3) 0 (numberOf NotInOrder)
 
+-- the bytes afterwards
 unfoldable pub freshReceiverBytes : List ℕ → List ℕ
 freshReceiverBytes b = cond (eqb (length b) 3) (receiverBytes freshReceiver) b
 
--- 1 where the bytes are an end in good order, else 0
-unfoldable pub receiverOrder : List ℕ → ℕ
-receiverOrder b = flag (isReceiver b && receiverGood (receiverIn b))
+-- 1 if the bytes encode a receiving end in good order, else 0
+unfoldable pub receiverOrderAnswer : List ℕ → ℕ
+receiverOrderAnswer b = flag (isReceiver b && receiverInOrder (receiverIn b))
 
--- bytes that are no encoded end are refused with 14, and nothing is written, as above
-unfoldable pub receiveCode : List ℕ → ℕ → ℕ
-receiveCode b ps = cond (isReceiver b) (receiptCode (receiveOf (receiverIn b) ps .answer)) (numberOf NotInOrder)
+-- taking a received PS; bytes that encode no receiving end are refused with 14, and nothing is
+-- written
+unfoldable pub receiveAnswer : List ℕ → ℕ → ℕ
+receiveAnswer b ps = cond (isReceiver b) (receiptAnswer (receiveOf (receiverIn b) ps .answer)) (numberOf NotInOrder)
 
+-- the bytes afterwards
 unfoldable pub receiveBytes : List ℕ → ℕ → List ℕ
-receiveBytes b ps = cond (isReceiver b) (receiverBytes (receiveOf (receiverIn b) ps .end)) b
+receiveBytes b ps = cond (isReceiver b) (receiverBytes (receiveOf (receiverIn b) ps .next)) b
 
-unfoldable pub tellCode : List ℕ → ℕ
-tellCode b = cond (isReceiver b) (tellingCode (tellOf (receiverIn b) .answer)) (numberOf NotInOrder)
+-- telling PR; bytes that encode no receiving end are refused with 14, and nothing is written
+unfoldable pub tellAnswer : List ℕ → ℕ
+tellAnswer b = cond (isReceiver b) (tellingAnswer (tellOf (receiverIn b) .answer)) (numberOf NotInOrder)
 
+-- the bytes afterwards
 unfoldable pub tellBytes : List ℕ → List ℕ
-tellBytes b = cond (isReceiver b) (receiverBytes (tellOf (receiverIn b) .end)) b
+tellBytes b = cond (isReceiver b) (receiverBytes (tellOf (receiverIn b) .next)) b

@@ -1,44 +1,49 @@
-// The two ends of the flow window in lent bytes, for callers that are not written in Rattle. A caller keeps the bytes of an end, lends them to
-// each call and is answered one number: the refusal number, and 256 times the value. Bytes that are no encoded end, a wrong length among them,
-// are refused like an end that is not in good order. specs/Stored.antt says what each byte is.
+// The two ends of the flow window in lent bytes, for callers that are not written in Rattle; `capi`
+// exports the calls to C. The caller keeps the bytes of an end and lends them to each call. A
+// sending end is 2 bytes: lower edge, next PS. A receiving end is 3 bytes: expected PS,
+// first-packet mark as 0 or 1, count of packets not yet told. A call answers one number, the
+// refusal number (0 for done) plus 256 times the value that its comment names; a refusal has the
+// value 0 and leaves the bytes as they were. 14 refuses bytes of another length, a mark over 1, and
+// an end that is not in good order. specs/Stored.antt defines the layout and each answer.
 ghost use mathlib.Core.Path.{_≡_};
 ghost use lib.ListN.{length};
-ghost use Rattle.window_bytes.specs.Stored.{senderIn, senderBytes, isReceiver, receiverIn, receiverBytes, flag, tellingCode, freshSenderCode, freshSenderBytes, senderOrder, sendCode, sendBytes, acknowledgeCode, acknowledgeBytes, freshReceiverCode, freshReceiverBytes, receiverOrder, receiveCode, receiveBytes, tellCode, tellBytes};
-use receiver::Receipt;
-use receiver::Receiver;
-use receiver::Telling;
-use sender::Grant;
-use sender::Sender;
+ghost use Rattle.window_bytes.specs.Stored.{senderIn, senderBytes, isReceiver, receiverIn, receiverBytes, tellingAnswer, freshSenderAnswer, freshSenderBytes, senderOrderAnswer, sendAnswer, sendBytes, acknowledgeAnswer, acknowledgeBytes, freshReceiverAnswer, freshReceiverBytes, receiverOrderAnswer, receiveAnswer, receiveBytes, tellAnswer, tellBytes};
 use sequence::PacketNumber;
+use window::receiver::Receipt;
+use window::receiver::Receiver;
+use window::receiver::Telling;
+use window::sender::Grant;
+use window::sender::Sender;
 
 // The number of `Refusal::NotInOrder`.
 const NOT_IN_ORDER: u32 = 14;
 
 // ---- the sending end
 
-// The end that the bytes say.
+// The end that the bytes encode.
 fn sender_in(state: &[u8]) -> Sender
     requires { ⌜ length (now state) ≡ 2 ⌝ }
     ensures { λ r. ⌜ r ≡ senderIn (now (state .entry)) ⌝ }
 {
     Sender {
         edge: PacketNumber(state[0]),
-        next: PacketNumber(state[1]),
+        ps: PacketNumber(state[1]),
     }
 }
 
-// Writes the end's bytes.
+// Writes the bytes of `end` to `state`.
 fn put_sender(state: &mut [u8], end: Sender)
     requires { ⌜ length (now state) ≡ 2 ⌝ }
     ensures { λ _. ⌜ now (state .exit) ≡ senderBytes end ⌝ }
 {
     state[0] = end.edge.0;
-    state[1] = end.next.0;
+    state[1] = end.ps.0;
 }
 
-// Writes an end that has sent nothing, whatever the bytes were.
+// Writes a sending end that has sent nothing to `state`, whatever its bytes were. There is no
+// value. Refused with 14 if `state` has not 2 bytes.
 pub fn sender_fresh(state: &mut [u8]) -> u32
-    ensures { λ r. ⌜ r ≡ freshSenderCode (now (state .entry)) ⌝ }
+    ensures { λ r. ⌜ r ≡ freshSenderAnswer (now (state .entry)) ⌝ }
     ensures { λ _. ⌜ now (state .exit) ≡ freshSenderBytes (now (state .entry)) ⌝ }
 {
     if state.len() == 2 {
@@ -49,9 +54,9 @@ pub fn sender_fresh(state: &mut [u8]) -> u32
     }
 }
 
-// 1 where the bytes are an end in good order, else 0.
+// Answers 1 if the bytes are a sending end in good order, else 0; this is no refusal number.
 pub fn sender_in_order(state: &[u8]) -> u32
-    ensures { λ r. ⌜ r ≡ senderOrder (now (state .entry)) ⌝ }
+    ensures { λ r. ⌜ r ≡ senderOrderAnswer (now (state .entry)) ⌝ }
 {
     if state.len() == 2 {
         let end = sender_in(state);
@@ -61,9 +66,10 @@ pub fn sender_in_order(state: &[u8]) -> u32
     }
 }
 
-// Asks for a PS to send the next packet with; the value is that PS. Only a grant writes, and only the next PS.
+// Asks for the PS of the next packet, which is the value. Refused in the order 14, 9 (send window
+// closed). If it is granted, only the byte of the next PS is written.
 pub fn sender_send(state: &mut [u8]) -> u32
-    ensures { λ r. ⌜ r ≡ sendCode (now (state .entry)) ⌝ }
+    ensures { λ r. ⌜ r ≡ sendAnswer (now (state .entry)) ⌝ }
     ensures { λ _. ⌜ now (state .exit) ≡ sendBytes (now (state .entry)) ⌝ }
 {
     if state.len() == 2 {
@@ -72,8 +78,8 @@ pub fn sender_send(state: &mut [u8]) -> u32
         let answer = sent.answer;
         match answer {
             Grant::Granted(ps) => {
-                let after = sent.end;
-                state[1] = after.next.0;
+                let after = sent.next;
+                state[1] = after.ps.0;
                 256 * ps.0 as u32
             }
             Grant::Refused(why) => why.number() as u32,
@@ -83,16 +89,17 @@ pub fn sender_send(state: &mut [u8]) -> u32
     }
 }
 
-// Takes a PR that came in; there is no value.
+// Takes a received PR, which becomes the lower edge. There is no value. Refused in the order 14, 1
+// (PR over 15), 16 (PR acknowledges what was never sent).
 pub fn sender_acknowledge(state: &mut [u8], pr: u8) -> u32
-    ensures { λ r. ⌜ r ≡ acknowledgeCode (now (state .entry)) pr ⌝ }
+    ensures { λ r. ⌜ r ≡ acknowledgeAnswer (now (state .entry)) pr ⌝ }
     ensures { λ _. ⌜ now (state .exit) ≡ acknowledgeBytes (now (state .entry)) pr ⌝ }
 {
     if state.len() == 2 {
         let end = sender_in(state);
         let acknowledged = end.acknowledge(PacketNumber(pr));
         let verdict = acknowledged.verdict;
-        put_sender(state, acknowledged.end);
+        put_sender(state, acknowledged.next);
         verdict.number() as u32
     } else {
         NOT_IN_ORDER
@@ -101,14 +108,15 @@ pub fn sender_acknowledge(state: &mut [u8], pr: u8) -> u32
 
 // ---- the receiving end
 
-// Whether the bytes are an encoded end.
+// Whether the bytes encode a receiving end, in good order or not: there are 3, and the mark is 0 or
+// 1.
 fn is_receiver(state: &[u8]) -> bool
     ensures { λ r. ⌜ r ≡ isReceiver (now (state .entry)) ⌝ }
 {
     state.len() == 3 && state[1] <= 1
 }
 
-// The end that the bytes say.
+// The end that the bytes encode.
 fn receiver_in(state: &[u8]) -> Receiver
     requires { ⌜ length (now state) ≡ 3 ⌝ }
     ensures { λ r. ⌜ r ≡ receiverIn (now (state .entry)) ⌝ }
@@ -120,26 +128,19 @@ fn receiver_in(state: &[u8]) -> Receiver
     }
 }
 
-// A flag as a number.
-fn flag_of(holds: bool) -> u8
-    ensures { λ r. ⌜ r ≡ flag holds ⌝ }
-{
-    if holds { 1 } else { 0 }
-}
-
-// Writes the end's bytes.
+// Writes the bytes of `end` to `state`.
 fn put_receiver(state: &mut [u8], end: Receiver)
     requires { ⌜ length (now state) ≡ 3 ⌝ }
     ensures { λ _. ⌜ now (state .exit) ≡ receiverBytes end ⌝ }
 {
     state[0] = end.expected.0;
-    state[1] = flag_of(end.first);
+    state[1] = little::flag(end.first);
     state[2] = end.untold;
 }
 
-// A telling as a number.
-fn telling_code(answer: Telling) -> u32
-    ensures { λ r. ⌜ r ≡ tellingCode answer ⌝ }
+// The answer to `tell` as one number: the value is PR.
+fn telling_answer(answer: Telling) -> u32
+    ensures { λ r. ⌜ r ≡ tellingAnswer answer ⌝ }
 {
     match answer {
         Telling::Tell(pr) => 256 * pr.0 as u32,
@@ -147,9 +148,10 @@ fn telling_code(answer: Telling) -> u32
     }
 }
 
-// Writes an end to which nothing has come, whatever the bytes were.
+// Writes a receiving end that has accepted nothing to `state`, whatever its bytes were. There is no
+// value. Refused with 14 if `state` has not 3 bytes.
 pub fn receiver_fresh(state: &mut [u8]) -> u32
-    ensures { λ r. ⌜ r ≡ freshReceiverCode (now (state .entry)) ⌝ }
+    ensures { λ r. ⌜ r ≡ freshReceiverAnswer (now (state .entry)) ⌝ }
     ensures { λ _. ⌜ now (state .exit) ≡ freshReceiverBytes (now (state .entry)) ⌝ }
 {
     if state.len() == 3 {
@@ -160,9 +162,9 @@ pub fn receiver_fresh(state: &mut [u8]) -> u32
     }
 }
 
-// 1 where the bytes are an end in good order, else 0.
+// Answers 1 if the bytes are a receiving end in good order, else 0; this is no refusal number.
 pub fn receiver_in_order(state: &[u8]) -> u32
-    ensures { λ r. ⌜ r ≡ receiverOrder (now (state .entry)) ⌝ }
+    ensures { λ r. ⌜ r ≡ receiverOrderAnswer (now (state .entry)) ⌝ }
 {
     if is_receiver(state) {
         let end = receiver_in(state);
@@ -172,9 +174,11 @@ pub fn receiver_in_order(state: &[u8]) -> u32
     }
 }
 
-// Takes the PS of a packet that came in; the value is 1 where PR is due. Only a PS that is taken writes.
+// Takes the PS of a received packet. The value is 1 if PR is due, else 0. Refused in the order 14,
+// 1 (PS over 15), then for a PS other than the expected one 12 (no PS has been accepted yet), 10
+// (its distance from the expected PS is 15) or 11. Only an accepted PS writes.
 pub fn receiver_receive(state: &mut [u8], ps: u8) -> u32
-    ensures { λ r. ⌜ r ≡ receiveCode (now (state .entry)) ps ⌝ }
+    ensures { λ r. ⌜ r ≡ receiveAnswer (now (state .entry)) ps ⌝ }
     ensures { λ _. ⌜ now (state .exit) ≡ receiveBytes (now (state .entry)) ps ⌝ }
 {
     if is_receiver(state) {
@@ -183,8 +187,8 @@ pub fn receiver_receive(state: &mut [u8], ps: u8) -> u32
         let answer = received.answer;
         match answer {
             Receipt::Taken { due } => {
-                put_receiver(state, received.end);
-                256 * flag_of(due) as u32
+                put_receiver(state, received.next);
+                256 * little::flag(due) as u32
             }
             Receipt::Refused(why) => why.number() as u32,
         }
@@ -193,17 +197,18 @@ pub fn receiver_receive(state: &mut [u8], ps: u8) -> u32
     }
 }
 
-// Tells PR, which is the value; all packets taken are then told.
+// Answers the PR to send now, which is the value, and sets the count of packets not yet told to 0.
+// Refused with 14.
 pub fn receiver_tell(state: &mut [u8]) -> u32
-    ensures { λ r. ⌜ r ≡ tellCode (now (state .entry)) ⌝ }
+    ensures { λ r. ⌜ r ≡ tellAnswer (now (state .entry)) ⌝ }
     ensures { λ _. ⌜ now (state .exit) ≡ tellBytes (now (state .entry)) ⌝ }
 {
     if is_receiver(state) {
         let end = receiver_in(state);
         let told = end.tell();
         let answer = told.answer;
-        put_receiver(state, told.end);
-        telling_code(answer)
+        put_receiver(state, told.next);
+        telling_answer(answer)
     } else {
         NOT_IN_ORDER
     }

@@ -1,4 +1,4 @@
--- How many of some numbers a test picks: the laws of `howMany`, and so of `count`.
+-- For how many of the numbers below k a test is true: the laws of `howMany`, and so of `count`.
 -- Assumes nothing.
 use mathlib.Core.Path.{_≡_, refl, sym, ap, ap₂, _∙_}
 use mathlib.Core.Bool.{Bool, true, false, _||_, or-false}
@@ -41,7 +41,7 @@ howMany-split (suc m) k p =
     assoc : (a b c : ℕ) → a + (b + c) ≡ (a + b) + c
     assoc a b c = omega arith
 
--- one number more is picked
+-- the test is true for one more number
 pub howMany-with : (k : ℕ) (p : ℕ → Bool) (n : ℕ) → n < k → p n ≡ false → howMany k (λ j. p j || eqb j n) ≡ howMany k p + 1
 unfolding howMany
 howMany-with zero p n h e = absurd (omega arith)
@@ -68,7 +68,7 @@ howMany-with (suc k) p (suc n) h e =
         go true q = eq-eqb (suc j) (suc n) (ap suc (eqb-true j n q))
         go false q = ne-eqb (suc j) (suc n) (λ r. eqb-false j n q (omega arith))
 
--- of 2 k numbers with no two beside each other, at most k are picked
+-- a test that is true for no two neighbours is true for at most k of 2 k numbers
 pub howMany-apart : (k : ℕ) (p : ℕ → Bool) → ((j : ℕ) → suc j < k + k → p j ≡ true → p (suc j) ≡ true → ⊥) → howMany (k + k) p ≤ k
 unfolding howMany
 howMany-apart zero p h = zero-le
@@ -88,9 +88,9 @@ howMany-apart (suc k) p h =
         digit-le true = omega arith
         digit-le false = omega arith
 
--- in a ring of k numbers it does not matter where the count begins
+-- modulo k it does not matter with which number the count begins
 module _ (k : ℕ) (pos : 0 < k) (p : ℕ → Bool) where
-  -- one step on: the first number of the row goes to its end
+  -- one step on: the first number becomes the last
   turn-one : (n : ℕ) (q : ℕ → Bool) → digit (q 0) + howMany n (λ j. q (suc j)) ≡ howMany n q + digit (q n)
   unfolding howMany
   turn-one zero q = omega arith

@@ -1,4 +1,4 @@
--- What the word operations do, digit by digit, at any width.
+-- What the word operations do, bit by bit, for any width k.
 -- Assumes nothing.
 use mathlib.Core.Path.{_≡_, sym, ap, _∙_}
 use Prim.Native.Nat.{ℕ, zero, suc, _+_, _-_, _*_, _/_, _%_, _^_, _≤_, _<_, min, max}
@@ -22,7 +22,7 @@ pub bit-half : (w j : ℕ) → bit (w / 2) j ≡ bit w (suc j)
 unfolding bit
 bit-half w j = ap (λ (x : ℕ). x % 2) (div-div-eq-div-mul w 2 (2 ^ j) ∙ ap (λ (x : ℕ). w / x) (mul-comm 2 (2 ^ j) ∙ sym (pow-suc 2 j)))
 
--- a word of k places has nothing from place k up
+-- in a word of k bits every bit from k on is 0
 pub bit-past : (w k j : ℕ) → w < 2 ^ k → k ≤ j → bit w j ≡ 0
 unfolding bit
 bit-past w k j h l = ap (λ (x : ℕ). x % 2) (div-eq-of-lt (lt-of-lt-of-le h (pow-mono l)))
@@ -46,7 +46,7 @@ bit-and a b j = ap (λ (x : ℕ). x % 2) (and-shr a b j) ∙ and-odd (a / 2 ^ j)
 pub half-lt : (k w : ℕ) → w < 2 ^ suc k → w / 2 < 2 ^ k
 half-lt k w h = omega (arith, pow-suc 2 k)
 
--- the complement within k places
+-- the complement in k bits
 not-half : (k w : ℕ) → w < 2 ^ suc k → ((2 ^ suc k - 1) - w) / 2 ≡ (2 ^ k - 1) - w / 2
 not-half k w h = omega (arith, pow-suc 2 k)
 
@@ -66,7 +66,7 @@ pub bit-shr : (w s j : ℕ) → bit (w / 2 ^ s) j ≡ bit w (s + j)
 unfolding bit
 bit-shr w s j = ap (λ (x : ℕ). x % 2) (shr-shr w s j)
 
--- below the shift there is nothing
+-- a shift up by s makes the lowest s bits 0
 pub bit-shl-low : (w s j : ℕ) → j < s → bit (w * 2 ^ s) j ≡ 0
 bit-shl-low w zero j h = absurd (not-suc-le-zero h)
 bit-shl-low w (suc s) zero h = bit-zero (w * 2 ^ suc s) ∙ shifted-even w s
@@ -76,14 +76,14 @@ bit-shl-low w (suc s) (suc j) h =
 pub bit-shl-high : (w s j : ℕ) → bit (w * 2 ^ s) (s + j) ≡ bit w j
 bit-shl-high w s j = sym (bit-shr (w * 2 ^ s) s j) ∙ ap (λ (x : ℕ). bit x j) (shl-shr w s)
 
--- what is cut off from place k up does not touch the places below
+-- cutting a word to k bits leaves the bits below k
 pub bit-mod : (w k j : ℕ) → j < k → bit (w % 2 ^ k) j ≡ bit w j
 unfolding bit
 bit-mod w k j h =
     let e : k ≡ (k - j - 1) + 1 + j = omega arith in
     ap (λ (x : ℕ). w % 2 ^ x / 2 ^ j % 2) e ∙ ap (λ (x : ℕ). x % 2) (field w ((k - j - 1) + 1) j) ∙ mod-mod-pow (w / 2 ^ j) (k - j - 1) 1
 
--- two words of k places are equal when their digits are
+-- two words of k bits are equal if all their bits are
 pub same-bits : (k a b : ℕ) → a < 2 ^ k → b < 2 ^ k → ((j : ℕ) → j < k → bit a j ≡ bit b j) → a ≡ b
 same-bits zero a b ha hb e = lt-one ha ∙ sym (lt-one hb)
 same-bits (suc k) a b ha hb e =

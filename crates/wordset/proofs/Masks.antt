@@ -1,4 +1,4 @@
--- What tests of whole words say of their members, at any width k.
+-- What tests of whole words say about their members, for any width k.
 -- Assumes nothing.
 use mathlib.Core.Path.{_≡_, refl, sym, ap, ap₂, _∙_}
 use mathlib.Core.Bool.{Bool, true, false, not, _&&_, false≢true, and-false}
@@ -37,7 +37,7 @@ member-ones m j = elim (decLt j m) [
   | no h ↦ member-past m (2 ^ m - 1) j (omega (arith, pow-pos m)) (omega arith) ∙ sym (le-ltb j m (omega arith))
 ]
 
--- ---- one set within another
+-- ---- subsets
 
 both-zero : (x y : Bool) → (x && not y) ≡ false → x ≡ true → y ≡ true
 both-zero true true e p = refl
@@ -53,7 +53,7 @@ digit-le true true f = omega arith
 digit-le true false f = absurd (false≢true (f refl))
 digit-le false y f = zero-le
 
--- a set within another is no greater as a number
+-- a subset is at most the set as a number
 pub within-le : (k a b : ℕ) → a < 2 ^ k → ((j : ℕ) → j < k → member a j ≡ true → member b j ≡ true) → a ≤ b
 within-le zero a b h f = omega arith
 within-le (suc k) a b h f =
@@ -76,7 +76,8 @@ module _ (k : ℕ) where
       empty (difference k a b) (setOf-lt k _) (λ j l.
       member-setOf k (λ i. member a i && not (member b i)) j l ∙ zero-both (member a j) (member b j) (f j l))
 
-  -- ---- no neighbours: nothing is left of a set and the set turned up by one
+  -- ---- no two neighbours are members: the word and the word shifted up by one have no bit in
+  -- common
 
   up : (w j : ℕ) → suc j < k → member (w * 2 % 2 ^ k) (suc j) ≡ member w j
   up w j l = same-bit (w * 2 % 2 ^ k) w (suc j) j (bit-mod (w * 2) k (suc j) l ∙ ap (bit (w * 2)) (omega arith) ∙ bit-shl-high w 1 j)
@@ -106,7 +107,7 @@ module _ (k : ℕ) where
       none (suc j) l =
           member-and w (w * 2 % 2 ^ k) (suc j) ∙ ap (λ (b : Bool). member w (suc j) && b) (up w j l) ∙ go (member w (suc j)) (member w j) (f j l)
 
-  -- ---- nothing from n up: the word is below 2 ^ n (and `member-past` the other way)
+  -- ---- a word without members from n on is below 2 ^ n (`member-past` is the converse)
 
   pub below : (w n : ℕ) → w < 2 ^ k → ((j : ℕ) → j < k → n ≤ j → member w j ≡ false) → w < 2 ^ n
   below w n h f =
@@ -135,7 +136,7 @@ top w e m h =
     let small : w / 2 ^ e < 2 = div-lt-iff-lt-mul (pow-pos e) .1 (omega (arith, pow-suc 2 e)) in
     omega arith
 
--- ---- what is below place n
+-- ---- the bits below d + 1: bit d and the bits below it
 
 pub cut : (w d : ℕ) → w % 2 ^ suc d ≡ digit (member w d) * 2 ^ d + w % 2 ^ d
 cut w d = let e : suc d ≡ 1 + d = omega arith in ap (λ (n : ℕ). w % 2 ^ n) e ∙ mod-pow-add w 1 d ∙ ap (λ (b : ℕ). b * 2 ^ d + w % 2 ^ d) (unfold bit in bit-member w d)

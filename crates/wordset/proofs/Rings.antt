@@ -1,4 +1,4 @@
--- Numbers in a ring, k - 1 being followed by 0: a rotated word and a run as the code computes them, at any width k.
+-- Numbers modulo k: the rotated word and the run as the code computes them, for any width k.
 -- Assumes nothing.
 use mathlib.Core.Path.{_≡_, refl, sym, ap, ap₂, _∙_}
 use mathlib.Core.Bool.{Bool, true, false, not}
@@ -19,7 +19,7 @@ pub same-bit : (v w i j : ℕ) → bit v i ≡ bit w j → member v i ≡ member
 unfolding member
 same-bit v w i j e = ap (λ (d : ℕ). eqb d 1) e
 
--- the complement within k places
+-- the complement in k bits
 not-digit : (b : Bool) → eqb (1 - digit b) 1 ≡ not b
 not-digit true = refl
 not-digit false = refl
@@ -44,7 +44,7 @@ module _ (k : ℕ) (pos : 0 < k) where
   pub rotate-lt : (w s : ℕ) → rotate k w s < 2 ^ k
   rotate-lt w s = setOf-lt k (λ j. member w ((s + j) % k))
 
-  -- ---- the word shifted down, with what falls out at the bottom put in at the top
+  -- ---- the word shifted down, with the bits that fall out put in at the top
 
   abbrev shifts : ℕ → ℕ → ℕ
   shifts w s = bitOr (w / 2 ^ s) (w * 2 ^ ((k - s) % k) % 2 ^ k)
@@ -78,7 +78,7 @@ module _ (k : ℕ) (pos : 0 < k) where
             ∙ max-zero-l (bit w i) ∙ ap (bit w) (sym (ap (λ (x : ℕ). x % k) f ∙ add-mod-right i k ∙ mod-eq-of-lt (omega arith)))
       ]
 
-  -- it is the rotated set, from any start
+  -- this is the rotated set, for any s
   pub shifts-rotate : (w s : ℕ) → w < 2 ^ k → bitOr (w / 2 ^ (s % k)) (w * 2 ^ ((k - s % k) % k) % 2 ^ k) ≡ rotate k w s
   shifts-rotate w s h =
       is-set k (shifts w (s % k)) _
@@ -87,7 +87,7 @@ module _ (k : ℕ) (pos : 0 < k) where
       same-bit (shifts w (s % k)) w j ((s % k + j) % k) (bit-shifts w (s % k) h (mod-lt s pos) j b)
       ∙ ap (member w) (mod-add-mod s k j))
 
-  -- ---- the trailing zeros of the rotated word's complement are a run
+  -- ---- the number of trailing zeros of the rotated word's complement is the length of the run
 
   pub zeros-run : (w s : ℕ) → trailingZeros k (2 ^ k - 1 - rotate k w s) ≡ run k w s
   zeros-run w s =

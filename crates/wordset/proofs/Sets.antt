@@ -1,4 +1,4 @@
--- The laws of sets in words, over the width.
+-- The laws of sets in words, for any width k.
 -- Assumes nothing.
 use mathlib.Core.Path.{_≡_, refl, sym, ap, ap₂, _∙_, fun-ext}
 use mathlib.Core.Bool.{Bool, true, false, not, cond, _&&_, _||_, true≢false}
@@ -15,7 +15,7 @@ use Rattle.wordset.proofs.Digits.{bit-lt, bit-zero, bit-half, bit-past,
 
 -- ---- digits and members
 
--- a digit is told by whether it is 1
+-- a digit is 1 or 0, by whether it equals 1
 digit-of : (d : ℕ) → d < 2 → d ≡ digit (eqb d 1)
 digit-of zero h = refl
 digit-of (suc zero) h = refl
@@ -44,7 +44,7 @@ member-half w j = ap (λ (d : ℕ). eqb d 1) (bit-half w j)
 pub member-none : (j : ℕ) → member 0 j ≡ false
 member-none j = member-bit 0 j 0 (bit-past 0 0 j (lit< tt) zero-le)
 
--- ---- the set that p picks
+-- ---- the set of the numbers for which p is true
 
 pub setOf-lt : (k : ℕ) (p : ℕ → Bool) → setOf k p < 2 ^ k
 unfolding setOf
@@ -83,7 +83,7 @@ same-members k a b ha hb e = same-bits k a b ha hb (λ j l. bit-member a j ∙ a
 pub member-past : (k w j : ℕ) → w < 2 ^ k → k ≤ j → member w j ≡ false
 member-past k w j h l = member-bit w j 0 (bit-past w k j h l)
 
--- ---- the first number that p picks
+-- ---- the lowest number for which p is true
 
 pub first-le : (k : ℕ) (p : ℕ → Bool) → first k p ≤ k
 unfolding first
@@ -119,7 +119,7 @@ first-least (suc k) p j h = go (p 0) refl j (first-least k (λ i. p (suc i))) h
     go false e zero r h = e
     go false e (suc i) r h = r i (omega arith)
 
--- it is no further than any number that p picks
+-- it is at most any number for which p is true
 pub first-most : (k : ℕ) (p : ℕ → Bool) (j : ℕ) → p j ≡ true → first k p ≤ j
 first-most k p j e = go (decLt j (first k p))
   where
@@ -136,7 +136,7 @@ first-same (suc k) p q e =
 
 -- ---- the machine's counts
 
--- digit of the lowest place
+-- the lowest bit
 pub low-digit : (w : ℕ) → w % 2 ≡ digit (member w 0)
 low-digit w = sym (bit-zero w) ∙ bit-member w 0
 
@@ -159,7 +159,7 @@ lowest-zeros (suc k) w =
     go true = refl
     go false = refl
 
--- a word of k places that is not 0 has a member below k
+-- a word of k bits that is not 0 has a member below k
 lowest-below : (k w : ℕ) → 0 < w → w < 2 ^ k → first k (member w) < k
 lowest-below k w p h = go (decLt (first k (member w)) k)
   where
@@ -173,7 +173,6 @@ lowest-below k w p h = go (decLt (first k (member w)) k)
 pub set-laws : (k : ℕ) → SetLaws k
 set-laws k = record {
   member-with = λ w n. member-setOf k (λ j. member w j || eqb j n);
-  member-without = λ w n. member-setOf k (λ j. member w j && not (eqb j n));
   member-union = λ a b. member-setOf k (λ j. member a j || member b j);
   member-difference = λ a b. member-setOf k (λ j. member a j && not (member b j));
   fits = setOf-lt k;

@@ -1,7 +1,8 @@
--- As the code writes them: each word operation is the operation on sets, at any width.
+-- Each word operation of the code is the operation on sets that its contract names, for any width
+-- k.
 -- Assumes nothing.
 use mathlib.Core.Path.{_≡_, refl, sym, ap, ap₂, _∙_}
-use mathlib.Core.Bool.{Bool, true, false, not, _&&_, _||_, or-false, and-true}
+use mathlib.Core.Bool.{Bool, true, false, not, _&&_, _||_, or-false}
 use Prim.Native.Nat.{ℕ, zero, suc, _+_, _-_, _*_, _/_, _%_, _^_, _≤_, _<_, min, max}
 use native.Mathlib.Nat.{one-mul, lt-of-le-of-lt}
 use native.Mathlib.Decide.{decLt}
@@ -10,11 +11,11 @@ use lib.Dec.{eqb, lit<}
 use lib.Pow.{pow-lt, shl-exact}
 use lib.Bits.{bitAnd, bitOr, and-mask, and-le-l, or-lt}
 use borrow.Author.Tests.{eq-eqb, ne-eqb}
-use Rattle.wordset.specs.Sets.{bit, member, digit, setOf, with, without, union, difference}
+use Rattle.wordset.specs.Sets.{bit, member, digit, setOf, with, union, difference}
 use Rattle.wordset.proofs.Digits.{bit-zero, bit-past, bit-or, bit-and, bit-not, bit-shl-low, bit-shl-high}
 use Rattle.wordset.proofs.Sets.{bit-member, member-bit, setOf-lt, member-setOf, same-members}
 
--- ---- or, and, and not: place by place
+-- ---- or, and, and not, bit by bit
 
 or-digit : (x y : Bool) → eqb (max (digit x) (digit y)) 1 ≡ (x || y)
 or-digit true true = refl
@@ -38,7 +39,7 @@ member-less k a b j h l =
     (bit-and a (2 ^ k - 1 - b) j ∙ ap₂ min (bit-member a j) (bit-not k b j h l ∙ ap (λ (d : ℕ). 1 - d) (bit-member b j)))
     ∙ less-digit (member a j) (member b j)
 
--- a set of one number
+-- the set that has only n as a member
 member-only : (n j : ℕ) → member (2 ^ n) j ≡ eqb j n
 member-only n j = elim (decLt j n) [
   | yes h ↦ member-bit (2 ^ n) j 0 (shifted ∙ bit-shl-low 1 n j h) ∙ sym (ne-eqb j n (λ e. omega arith))
@@ -54,7 +55,7 @@ member-only n j = elim (decLt j n) [
     alone zero e = ap (λ (x : ℕ). eqb x 1) (bit-zero 1) ∙ sym (eq-eqb j n (omega arith))
     alone (suc d) e = ap (λ (x : ℕ). eqb x 1) (bit-past 1 1 (suc d) (lit< tt) (omega arith)) ∙ sym (ne-eqb j n (λ q. omega arith))
 
--- the mask that the code makes for n: a one shifted up by n
+-- the code's mask for n: 1 shifted up by n
 pub mask : (k n : ℕ) → n < k → 1 * 2 ^ n % 2 ^ k ≡ 2 ^ n
 mask k n h = shl-exact 1 n k (lit< tt) (omega arith) ∙ one-mul (2 ^ n)
 
@@ -65,7 +66,8 @@ unfolding member bit
 shifted-member w n = ap (λ (x : ℕ). eqb x 1) (and-mask (w / 2 ^ n) 1)
 
 module _ (k : ℕ) where
-  -- a word of k places is a set that p tells where each place agrees with p
+  -- a word of k bits is the set of the numbers for which p is true, if p is true for exactly its
+  -- members
   pub is-set : (w : ℕ) (p : ℕ → Bool) → w < 2 ^ k → ((j : ℕ) → j < k → member w j ≡ p j) → w ≡ setOf k p
   is-set w p h e = same-members k w (setOf k p) h (setOf-lt k p) (λ j l. e j l ∙ sym (member-setOf k p j l))
 
@@ -83,18 +85,9 @@ module _ (k : ℕ) where
       ap (bitOr w) (mask k n l)
       ∙ is-set (bitOr w (2 ^ n)) _ (or-lt k w (2 ^ n) h (pow-lt l)) (λ j b. member-or w (2 ^ n) j ∙ ap (λ (x : Bool). member w j || x) (member-only n j))
 
-  pub and-without : (w n : ℕ) → w < 2 ^ k → n < k → bitAnd w (2 ^ k - 1 - 1 * 2 ^ n % 2 ^ k) ≡ without k w n
-  and-without w n h l =
-      ap (λ (x : ℕ). bitAnd w (2 ^ k - 1 - x)) (mask k n l)
-      ∙ is-set (bitAnd w (2 ^ k - 1 - 2 ^ n)) _ (less-lt w (2 ^ n) h) (λ j b.
-      member-less k w (2 ^ n) j (pow-lt l) b ∙ ap (λ (x : Bool). member w j && not x) (member-only n j))
-
-  -- a number past the word is not in the set, and adding it or taking it out changes nothing
+  -- adding a number that is not below k changes nothing
   past : (n j : ℕ) → k ≤ n → j < k → eqb j n ≡ false
   past n j h l = ne-eqb j n (λ e. omega arith)
 
   pub with-past : (w n : ℕ) → w < 2 ^ k → k ≤ n → w ≡ with k w n
   with-past w n h l = is-set w _ h (λ j b. sym (ap (λ (x : Bool). member w j || x) (past n j l b) ∙ or-false (member w j)))
-
-  pub without-past : (w n : ℕ) → w < 2 ^ k → k ≤ n → w ≡ without k w n
-  without-past w n h l = is-set w _ h (λ j b. sym (ap (λ (x : Bool). member w j && not x) (past n j l b) ∙ and-true (member w j)))

@@ -1,13 +1,14 @@
--- The laws of sets in words of k places, one claim over the width: `set-laws` of proofs/Sets.antt proves it for every k.
+-- The laws of sets in words of k bits, as one claim with the width k as a parameter: `set-laws` in
+-- proofs/Sets.antt proves it for every k.
 -- Assumes nothing.
 use mathlib.Core.Path.{_≡_}
 use mathlib.Core.Bool.{Bool, true, false, not, _&&_, _||_}
 use Prim.Native.Nat.{ℕ, _^_, _≤_, _<_}
 use lib.Dec.{eqb}
 use lib.Count.{ones, trailingZeros}
-use Rattle.wordset.specs.Sets.{member, setOf, with, without, union, difference, count, lowest}
+use Rattle.wordset.specs.Sets.{member, setOf, with, union, difference, count, lowest}
 
--- n is in the set, and nothing below it is
+-- n is the lowest number in the set w
 pub record IsLowest (w n : ℕ) : Type 0 where
   pub in-set : member w n ≡ true
   pub least : (j : ℕ) → j < n → member w j ≡ false
@@ -15,17 +16,16 @@ pub record IsLowest (w n : ℕ) : Type 0 where
 pub record SetLaws (k : ℕ) : Type 0 where
   -- membership after each operation
   pub member-with : (w n j : ℕ) → j < k → member (with k w n) j ≡ (member w j || eqb j n)
-  pub member-without : (w n j : ℕ) → j < k → member (without k w n) j ≡ (member w j && not (eqb j n))
   pub member-union : (a b j : ℕ) → j < k → member (union k a b) j ≡ (member a j || member b j)
   pub member-difference : (a b j : ℕ) → j < k → member (difference k a b) j ≡ (member a j && not (member b j))
-  -- each operation gives a word of k places, and in such a word no number from k up is a member
+  -- each operation gives a word of k bits, and such a word has only members below k
   pub fits : (p : ℕ → Bool) → setOf k p < 2 ^ k
   pub member-past : (w j : ℕ) → w < 2 ^ k → k ≤ j → member w j ≡ false
-  -- two words with the same members are equal
+  -- two words of k bits with the same members are equal
   pub same : (a b : ℕ) → a < 2 ^ k → b < 2 ^ k → ((j : ℕ) → j < k → member a j ≡ member b j) → a ≡ b
   -- the machine's count of ones is the number of members
   pub count-ones : (w : ℕ) → w < 2 ^ k → ones w ≡ count k w
-  -- the machine's count of trailing zeros is the lowest member; in an empty set it is k
+  -- the machine's count of trailing zeros is the lowest member; both are k for an empty set
   pub lowest-zeros : (w : ℕ) → trailingZeros k w ≡ lowest k w
   pub lowest-none : lowest k 0 ≡ k
   pub lowest-is : (w : ℕ) → lowest k w < k → IsLowest w (lowest k w)

@@ -1,3 +1,3 @@
--- What the contracts of `wordset` cite, and the laws of sets in words.
+-- The definitions that the contracts of `wordset` use, and the laws of sets in words.
 pub mod Sets
 pub mod Laws

@@ -1,11 +1,14 @@
--- Sets of small numbers, each in one word: place j of the word, counted from the lowest, is 1 exactly if j is in the set. A word of k places
--- holds a set of numbers below k. Every operation is told by its members; no definition but `bit` knows that a set is a word.
+-- Sets of small numbers in one word: document 01, "The resequencer": "Both sets are words with one
+-- bit per sequence number", and "Interrogators and ground addresses": "a set of the 16 codes II".
+-- Bit j of the word, counted from the lowest, is 1 exactly if j is in the set; a word of k bits
+-- holds a set of numbers below k. Every operation is defined by which numbers its result has as
+-- members; only `bit` and `setOf` depend on how a set is encoded.
 -- Assumes nothing.
 use mathlib.Core.Bool.{Bool, true, false, not, cond, _&&_, _||_}
 use Prim.Native.Nat.{ℕ, zero, suc, _+_, _*_, _/_, _%_, _^_}
 use lib.Dec.{eqb}
 
--- the digit at place j, 0 or 1
+-- bit j of the word w, 0 or 1
 unfoldable pub bit : ℕ → ℕ → ℕ
 bit w j = w / 2 ^ j % 2
 
@@ -13,41 +16,37 @@ bit w j = w / 2 ^ j % 2
 unfoldable pub member : ℕ → ℕ → Bool
 member w j = eqb (bit w j) 1
 
--- 1 for true
+-- 1 for true, 0 for false
 abbrev pub digit : Bool → ℕ
 digit true = 1
 digit false = 0
 
--- the set of those numbers below k that p picks
+-- the set of the numbers below k for which p is true
 unfoldable pub setOf : ℕ → (ℕ → Bool) → ℕ
 setOf zero p = 0
 setOf (suc k) p = digit (p 0) + 2 * setOf k (λ j. p (suc j))
 
--- how many of the numbers below k p picks
+-- for how many of the numbers below k p is true
 unfoldable pub howMany : ℕ → (ℕ → Bool) → ℕ
 howMany zero p = 0
 howMany (suc k) p = digit (p 0) + howMany k (λ j. p (suc j))
 
--- the first number from 0 up that p picks, k where it picks none below k
+-- the lowest number below k for which p is true; k if there is none
 unfoldable pub first : ℕ → (ℕ → Bool) → ℕ
 first zero p = 0
 first (suc k) p = cond (p 0) 0 (suc (first k (λ j. p (suc j))))
 
 -- ---- the operations on sets of numbers below k
 
--- the set with n added; a number from k up is never in the set
+-- the set with n added; a number n that is not below k changes nothing
 abbrev pub with : ℕ → ℕ → ℕ → ℕ
 with k w n = setOf k (λ j. member w j || eqb j n)
 
--- the set with n taken out
-abbrev pub without : ℕ → ℕ → ℕ → ℕ
-without k w n = setOf k (λ j. member w j && not (eqb j n))
-
--- what is in either set
+-- the numbers that are in a or in b
 abbrev pub union : ℕ → ℕ → ℕ → ℕ
 union k a b = setOf k (λ j. member a j || member b j)
 
--- what is in the first set and not in the second
+-- the numbers that are in a and not in b
 abbrev pub difference : ℕ → ℕ → ℕ → ℕ
 difference k a b = setOf k (λ j. member a j && not (member b j))
 
@@ -55,21 +54,21 @@ difference k a b = setOf k (λ j. member a j && not (member b j))
 abbrev pub count : ℕ → ℕ → ℕ
 count k w = howMany k (member w)
 
--- the lowest number in the set, k where it is empty
+-- the lowest number in the set; k if it is empty
 abbrev pub lowest : ℕ → ℕ → ℕ
 lowest k w = first k (member w)
 
--- ---- numbers in a ring: k - 1 is followed by 0
+-- ---- numbers modulo k: k - 1 is followed by 0
 
--- the set turned down by s: j is in it where s + j is in w
+-- the set w rotated down by s: j is in it exactly if s + j modulo k is in w
 abbrev pub rotate : ℕ → ℕ → ℕ → ℕ
 rotate k w s = setOf k (λ j. member w ((s + j) % k))
 
--- how many numbers from s up are in the set without a gap, at most k
+-- how many numbers starting at s are in the set without a gap, modulo k; at most k
 abbrev pub run : ℕ → ℕ → ℕ → ℕ
 run k w s = first k (λ j. not (member w ((s + j) % k)))
 
--- ---- a test of every number below k
+-- ---- a test of every number below k: whether p is true for all of them
 
 unfoldable pub every : ℕ → (ℕ → Bool) → Bool
 every zero p = true

@@ -1,8 +1,9 @@
-// Sets of the numbers 0 to 15, as a u16.
+// Sets of the numbers 0 to 15 as a u16: bit n, counted from the lowest, is 1 exactly if n is in the
+// set.
 ghost use mathlib.Core.Path.{_≡_};
-ghost use Rattle.wordset.specs.Sets.{member, with, without, union, difference, count, lowest};
+ghost use Rattle.wordset.specs.Sets.{member, with, union, difference, count, lowest};
 
-// Whether the number is in the set.
+// Whether `number` is in the set; a number over 15 never is.
 pub fn member(set: u16, number: u8) -> bool
     ensures { λ r. ⌜ r ≡ member set number ⌝ }
 {
@@ -13,7 +14,7 @@ pub fn member(set: u16, number: u8) -> bool
     }
 }
 
-// The set with the number added.
+// The set with `number` added; a number over 15 changes nothing.
 pub fn with(set: u16, number: u8) -> u16
     ensures { λ r. ⌜ r ≡ with 16 set number ⌝ }
 {
@@ -24,25 +25,14 @@ pub fn with(set: u16, number: u8) -> u16
     }
 }
 
-// The set with the number taken out.
-pub fn without(set: u16, number: u8) -> u16
-    ensures { λ r. ⌜ r ≡ without 16 set number ⌝ }
-{
-    if number < 16 {
-        set & !(1u16 << (number as u16))
-    } else {
-        set
-    }
-}
-
-// What is in either set.
+// The numbers that are in `a` or in `b`.
 pub fn union(a: u16, b: u16) -> u16
     ensures { λ r. ⌜ r ≡ union 16 a b ⌝ }
 {
     a | b
 }
 
-// What is in a and not in b.
+// The numbers that are in `a` and not in `b`.
 pub fn difference(a: u16, b: u16) -> u16
     ensures { λ r. ⌜ r ≡ difference 16 a b ⌝ }
 {
@@ -56,7 +46,7 @@ pub fn count(set: u16) -> u8
     u16::count_ones(set) as u8
 }
 
-// The lowest number in the set, 16 where it is empty.
+// The lowest number in the set; 16 if it is empty.
 pub fn lowest(set: u16) -> u8
     ensures { λ r. ⌜ r ≡ lowest 16 set ⌝ }
 {

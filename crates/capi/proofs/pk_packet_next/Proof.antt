@@ -1,4 +1,5 @@
--- `capi::pk_packet_next` meets its contract: the number within the one that is answered.
+-- `capi::pk_packet_next` meets its contract: the answer is the number in the struct that `next`
+-- returns.
 -- Assumes nothing.
 use mathlib.Core.Path.{ap}
 use borrow.Author.Needs.{needs}

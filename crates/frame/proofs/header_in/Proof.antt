@@ -1,4 +1,4 @@
--- `frame::header_in` meets its contract: each kind's.
+-- `frame::header_in` meets its contract: each kind's case follows from the call for that kind.
 -- Assumes nothing.
 use borrow.Author.Needs.{needs}
 use Rattle.frame.proofs.header_in.Statement.{statement}

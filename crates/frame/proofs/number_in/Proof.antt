@@ -1,4 +1,5 @@
--- `frame::number_in` meets its contract: at each turn the number so far and the bytes from here on write the whole.
+-- `frame::number_in` meets its contract: at each turn, the number so far followed by the bytes
+-- still to be read is the whole number.
 -- Assumes nothing.
 use mathlib.Core.Path.{_≡_, refl, sym, ap, _∙_}
 use mathlib.Core.List.{List, [], _∷_}
@@ -9,11 +10,11 @@ use lib.Arith.{digits-lt}
 use lib.ListN.{drop, getD}
 use lib.Pow.{pow-add, pow-mono}
 use borrow.Author.Needs.{needs}
-use Rattle.fields.specs.Rows.{packAfter, eights, numberIn}
+use Rattle.frame_fields.specs.Rows.{packAfter, eights, numberIn}
 use Rattle.frame.proofs.number_in.Statement.{statement}
 use Rattle.frame.proofs.number_in.Tie as tie
 
--- a byte is read after those that were; one that is not there is 0
+-- one byte more is read; a byte past the end counts as 0
 read-step : (h r i : ℕ) (bs : List ℕ) → packAfter h (eights (suc r)) (drop i bs) ≡ packAfter (h * 256 + getD bs i 0) (eights r) (drop (suc i) bs)
 read-step h r zero [] = ap (λ (x : ℕ). packAfter x (eights r) []) (omega arith)
 read-step h r zero (b ∷ bs) = refl
@@ -42,7 +43,7 @@ loop-holds c = (c .args .k, omega arith, omega arith, refl)
 mul-h : tie.Need-mul-h Inv-loop μ-loop
 mul-h c = let l = c .before .loop in omega (arith, short-fits (l .h) (l .i) (l .inv .2) (omega arith))
 
--- the byte that is read
+-- the byte that is read is below 256
 byte-small : (c : tie.After-shared-slice-known Inv-loop μ-loop) → getD (c .before .before .before .args .frame .now) (c .before .before .loop .i) 0 < 256
 byte-small c = omega (arith, c .shared-slice-known .given (c .before .before .loop .i))
 

@@ -1,4 +1,5 @@
--- `frame::read_data` meets its contract: a frame of no whole segments is refused whatever it holds.
+-- `frame::read_data` meets its contract: a frame that is not of whole segments is refused whatever
+-- it holds.
 -- Assumes nothing.
 use mathlib.Core.Path.{sym, _∙_}
 use lib.ListN.{length}

@@ -1,4 +1,5 @@
--- `frame::read_frame` meets its contract: a frame of no whole segments is refused whatever its kind.
+-- `frame::read_frame` meets its contract: a frame that is not of whole segments is refused whatever
+-- its kind.
 -- Assumes nothing.
 use mathlib.Core.Path.{_≡_, sym, _∙_}
 use mathlib.Core.List.{List}
@@ -7,8 +8,8 @@ use lib.ListN.{length, getD}
 use borrow.Author.Needs.{needs}
 use Rattle.refusal.specs.declared.Refusal.{Refusal}
 use Rattle.refusal.specs.declared.Verdict.the-variants.{Refused as NotDone}
-use Rattle.form.specs.declared.Form.{Form}
-use Rattle.codec.specs.Reading.{shapeVerdict}
+use Rattle.frame_form.specs.declared.Form.{Form}
+use Rattle.frame_codec.specs.Reading.{shapeVerdict}
 use Rattle.frame.specs.declared.Read.the-variants.{Refused}
 use Rattle.frame.specs.Packets.{kinds}
 use Rattle.frame.specs.Reading.{firstNamed, readOf}

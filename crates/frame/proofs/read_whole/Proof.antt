@@ -1,4 +1,5 @@
--- `frame::read_whole` meets its contract: the first byte names the kind, and each case is that of `readAs`.
+-- `frame::read_whole` meets its contract: the first byte names the kind, and each case is that of
+-- `readAs`.
 -- Assumes nothing.
 use mathlib.Core.Path.{_≡_, sym, ap, _∙_}
 use mathlib.Core.List.{List}
@@ -7,8 +8,8 @@ use borrow.Author.Needs.{needs}
 use lib.ListN.{length, getD}
 use Rattle.refusal.specs.declared.Refusal.the-variants.{FormatError}
 use Rattle.refusal.specs.declared.Verdict.the-variants.{Done}
-use Rattle.form.specs.declared.Form.{Form}
-use Rattle.codec.specs.Reading.{shapeVerdict}
+use Rattle.frame_form.specs.declared.Form.{Form}
+use Rattle.frame_codec.specs.Reading.{shapeVerdict}
 use Rattle.frame.specs.declared.Found.{Found}
 use Rattle.frame.specs.declared.Found.the-variants.{Unknown}
 use Rattle.frame.specs.declared.Read.the-variants.{Refused}

@@ -1,4 +1,4 @@
--- `frame::user_data` meets its contract: a part that runs past the end is what there is of it.
+-- `frame::user_data` meets its contract: a part that runs past the end of the frame ends there.
 -- Assumes nothing.
 use mathlib.Core.Path.{sym, ap, _∙_}
 use Prim.Native.Nat.{ℕ, _≤_}

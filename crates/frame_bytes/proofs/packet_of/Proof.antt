@@ -4,11 +4,16 @@ use borrow.Author.Needs.{needs}
 use Rattle.frame_bytes.proofs.packet_of.Statement.{statement}
 use Rattle.frame_bytes.proofs.packet_of.Tie as tie
 
+-- the place where the kind is known to be CLEAR REQUEST, seen from the end of that case, nine reads
+-- later
+abbrev request : tie.After-shared-slice-known14 → tie.After-enum-told2
+request c = c .before .before .before .before .before .before .before .before .before
+
 returns : tie.Need-returns
 returns c = simp (c .before .before .before .before .before .enum-told .given .1)
 
 returns-2 : tie.Need-returns-2
-returns-2 c = simp (c .before .before .before .before .before .before .before .before .before .enum-told2 .given .1)
+returns-2 c = simp (request c .enum-told2 .given .1)
 
 returns-3 : tie.Need-returns-3
 returns-3 c = simp (c .before .before .before .before .before .enum-told3 .given .1)

@@ -8,7 +8,7 @@ use lib.ListN.{length}
 use borrow.Author.Needs.{needs}
 use borrow.Rule.Slice.PartAt.{part-to-end}
 use Rattle.frame.specs.declared.Found.the-variants.{Known}
-use Rattle.frame_bytes.specs.Stored.{writeCodeBy, writeBytesBy}
+use Rattle.frame_bytes.specs.Stored.{writeAnswerBy, writeBytesBy}
 use Rattle.frame_bytes.proofs.Answers.{ten-code, ten-bytes, other-code, other-bytes}
 use Rattle.frame_bytes.proofs.write.Statement.{statement}
 use Rattle.frame_bytes.proofs.write.Tie as tie
@@ -20,15 +20,24 @@ returns c =
       other-bytes (a .form) (a .packet .now) (a .user .now) (a .out .now) (c .if1 .taken),
     )
 
+-- the function's start, seen from the place after `kind_at`
+abbrev start : tie.After-kind-at → tie.Start
+start c = c .before .before .before .before .before .before
+
+-- the place where the kind is known, seen from the end of that case
+abbrev met : tie.After-slice-known2 → tie.After-found
+met c = c .before .before .before .before .before .before
+
 returns-2 : tie.Need-returns-2
 returns-2 c =
-    let a = c .before .before .before .before .before .before .before .before .before .before .before .before .before .before .args in
-    let found = sym (c .before .before .before .before .before .before .found .given .1) ∙ c .before .before .before .before .before .before .before .before .kind-at .ensures in
-    let k = Known (c .before .before .before .before .before .before .found .given .0 .0) in
+    let named = met c .before .before in
+    let a = start named .args in
+    let found = sym (met c .found .given .1) ∙ named .kind-at .ensures in
+    let k = Known (met c .found .given .0 .0) in
     let part = part-to-end (a .packet .now) 1 in
-    let ten : length (a .packet .now) ≡ 10 = omega (arith, c .before .before .before .before .before .before .before .before .before .before .if1 .left) in (
+    let ten : length (a .packet .now) ≡ 10 = omega (arith, named .before .before .if1 .left) in (
       c .before .before .write-known .ensures .0
-          ∙ ap (λ (v : List ℕ). writeCodeBy k (a .form) v (length (a .user .now)) (length (a .out .now))) part
+          ∙ ap (λ (v : List ℕ). writeAnswerBy k (a .form) v (length (a .user .now)) (length (a .out .now))) part
           ∙ ten-code (a .form) (a .packet .now) _ (length (a .user .now)) (length (a .out .now)) ten found,
       c .before .before .write-known .ensures .1
           ∙ ap (λ (v : List ℕ). writeBytesBy k (a .form) v (a .user .now) (a .out .now)) part
@@ -37,9 +46,10 @@ returns-2 c =
 
 returns-3 : tie.Need-returns-3
 returns-3 c =
-    let a = c .before .before .before .before .before .before .before .before .args in
-    let found = sym (c .enum-told .given .1) ∙ c .before .before .kind-at .ensures in
-    let ten : length (a .packet .now) ≡ 10 = omega (arith, c .before .before .before .before .if1 .left) in (
+    let named = c .before .before in
+    let a = start named .args in
+    let found = sym (c .enum-told .given .1) ∙ named .kind-at .ensures in
+    let ten : length (a .packet .now) ≡ 10 = omega (arith, named .before .before .if1 .left) in (
       ten-code (a .form) (a .packet .now) _ (length (a .user .now)) (length (a .out .now)) ten found,
       ten-bytes (a .form) (a .packet .now) _ (a .user .now) (a .out .now) ten found,
     )

@@ -1,47 +1,59 @@
--- `frame_bytes::write_known` meets its contract: the packet and the form are those of the definition, and the frame that is written is small.
+-- `frame_bytes::write_known` meets its contract: the packet and the form are those of the
+-- definition, and the frame is small enough for the answer.
 -- Assumes nothing.
 use mathlib.Core.Path.{sym, ap, _∙_}
 use native.Mathlib.Omega.{arith}
 use lib.ListN.{length}
 use borrow.Author.Needs.{needs}
-use Rattle.frame_bytes.specs.Stored.{writtenCode}
+use Rattle.frame_bytes.specs.Stored.{writtenAnswer}
 use Rattle.frame_bytes.proofs.Answers.{done-code, refused-code, known-code, known-bytes}
 use Rattle.frame_bytes.proofs.Sizes.{written-few}
 use Rattle.frame_bytes.proofs.write_known.Statement.{statement}
 use Rattle.frame_bytes.proofs.write_known.Tie as tie
 
+-- the function's start, seen from the place after `flags_fit`
+abbrev start : tie.After-flags-fit → tie.Start
+start c = c .before .before .before .before
+
+-- the place after `flags_fit`, seen from the place after `write_frame`
+abbrev flagged : tie.After-write-frame → tie.After-flags-fit
+flagged c = c .before .before .before .before .before
+
 mul-result : tie.Need-mul-result
 mul-result c =
-    let a = c .before .before .before .before .before .before .before .before .before .before .before .before .before .before .args in
+    let wrote = c .before .before .before .before .before in
+    let a = start (flagged wrote) .args in
     omega (
       arith,
-      written-few (c .before .before .before .before .before .before .before .before .from-number .result) (c .before .before .before .before .before .before .before .packet-of .result) (length (a .user .now)) (length (a .out .now)) _
-          (sym (c .before .before .before .before .before .write-frame .ensures .0) ∙ c .before .written .given .1),
+      written-few (wrote .before .before .before .from-number .result) (wrote .before .before .packet-of .result) (length (a .user .now)) (length (a .out .now)) _
+          (sym (wrote .write-frame .ensures .0) ∙ c .before .written .given .1),
     )
 
 returns : tie.Need-returns
 returns c =
-    let a = c .before .before .before .before .before .before .before .before .before .before .before .before .before .before .args in
-    let fit = sym (c .before .before .before .before .before .before .before .before .before .before .flags-fit .ensures) ∙ c .before .before .before .before .before .before .before .before .before .if1 .taken in
-    let f = c .before .before .before .before .before .before .before .before .from-number in
-    let p = c .before .before .before .before .before .before .before .packet-of in
-    let w = c .before .before .before .before .before .write-frame in (
+    let wrote = c .before .before .before .before .before in
+    let a = start (flagged wrote) .args in
+    let fit = sym (flagged wrote .flags-fit .ensures) ∙ wrote .before .before .before .before .if1 .taken in
+    let f = wrote .before .before .before .from-number in
+    let p = wrote .before .before .packet-of in
+    let w = wrote .write-frame in (
       done-code _
-          ∙ ap writtenCode (sym (c .before .written .given .1))
+          ∙ ap writtenAnswer (sym (c .before .written .given .1))
           ∙ known-code (a .kind) (a .form) (a .values .now) (f .result) (p .result) (f .ensures) (p .ensures) (length (a .user .now)) (length (a .out .now)) _ fit (w .ensures .0),
       known-bytes (a .kind) (a .form) (a .values .now) (f .result) (p .result) (f .ensures) (p .ensures) (a .user .now) (a .out .now) _ fit (w .ensures .1),
     )
 
 returns-2 : tie.Need-returns-2
 returns-2 c =
-    let a = c .before .before .before .before .before .before .before .before .before .before .before .before .before .before .before .args in
-    let fit = sym (c .before .before .before .before .before .before .before .before .before .before .before .flags-fit .ensures) ∙ c .before .before .before .before .before .before .before .before .before .before .if1 .taken in
-    let f = c .before .before .before .before .before .before .before .before .before .from-number in
-    let p = c .before .before .before .before .before .before .before .before .packet-of in
-    let w = c .before .before .before .before .before .before .write-frame in (
+    let wrote = c .before .before .before .before .before .before in
+    let a = start (flagged wrote) .args in
+    let fit = sym (flagged wrote .flags-fit .ensures) ∙ wrote .before .before .before .before .if1 .taken in
+    let f = wrote .before .before .before .from-number in
+    let p = wrote .before .before .packet-of in
+    let w = wrote .write-frame in (
       c .number .ensures
           ∙ refused-code (c .before .before .written2 .given .0 .0)
-          ∙ ap writtenCode (sym (c .before .before .written2 .given .1))
+          ∙ ap writtenAnswer (sym (c .before .before .written2 .given .1))
           ∙ known-code (a .kind) (a .form) (a .values .now) (f .result) (p .result) (f .ensures) (p .ensures) (length (a .user .now)) (length (a .out .now)) _ fit (w .ensures .0),
       known-bytes (a .kind) (a .form) (a .values .now) (f .result) (p .result) (f .ensures) (p .ensures) (a .user .now) (a .out .now) _ fit (w .ensures .1),
     )

@@ -1,4 +1,5 @@
--- `replay::read_all` meets its contract: the output keeps its length, and each turn leaves fewer reads.
+-- `replay::read_all` meets its contract: the output keeps its length, and each turn leaves fewer
+-- reads.
 -- Assumes nothing.
 use mathlib.Core.Path.{_≡_}
 use lib.ListN.{length}

@@ -1,11 +1,11 @@
--- `replay::run` meets its contract: the bytes before `at` are run.
+-- `replay::run` meets its contract: after each turn the first `at` bytes are run.
 -- Assumes nothing.
 use mathlib.Core.Path.{_≡_}
 use Prim.Native.Nat.{_-_, _≤_}
 use native.Mathlib.Omega.{arith}
 use lib.ListN.{length, take}
 use borrow.Author.Needs.{needs}
-use Rattle.script.specs.Feeding.{feedNext}
+use Rattle.replay_script.specs.Feeding.{feedNext}
 use Rattle.replay.proofs.Parts.{nothing-run, more-run, all-run, part-room}
 use Rattle.replay.proofs.run.Statement.{statement}
 use Rattle.replay.proofs.run.Tie as tie

@@ -1,4 +1,4 @@
--- `resequencer::clear_passed` meets its contract: after i turns the tickets of i numbers are gone.
+-- `resequencer::clear_passed` meets its contract: after i turns the tickets of i numbers are 0.
 -- Assumes nothing.
 use mathlib.Core.Path.{_≡_, refl, ap, _∙_}
 use Prim.Native.Nat.{_-_, _≤_}

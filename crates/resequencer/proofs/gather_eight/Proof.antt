@@ -1,4 +1,5 @@
--- `resequencer::gather_eight` meets its contract: after j turns the tickets of j numbers more are looked at.
+-- `resequencer::gather_eight` meets its contract: after j turns the tickets of j more numbers have
+-- been tested.
 -- Assumes nothing.
 use mathlib.Core.Path.{_≡_, refl, ap, _∙_, subst}
 use mathlib.Core.Bool.{Bool}

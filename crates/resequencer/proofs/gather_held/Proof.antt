@@ -1,4 +1,5 @@
--- `resequencer::gather_held` meets its contract: after i turns the tickets held among i numbers are gathered.
+-- `resequencer::gather_held` meets its contract: after i turns the tickets of the held ones among i
+-- numbers are written.
 -- Assumes nothing.
 use mathlib.Core.Path.{sym, subst}
 use mathlib.Core.List.{List}

@@ -1,4 +1,5 @@
--- `resequencer::passed_numbers` meets its contract: m ones turned up by NESN are the m numbers from NESN on.
+-- `resequencer::passed_numbers` meets its contract: m ones rotated up by NESN are the m numbers
+-- starting at NESN.
 -- Assumes nothing.
 use mathlib.Core.Path.{_∙_}
 use native.Mathlib.Omega.{arith}

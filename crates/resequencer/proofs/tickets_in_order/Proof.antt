@@ -1,4 +1,5 @@
--- `resequencer::tickets_in_order` meets its contract: after each turn the tickets below p are looked at.
+-- `resequencer::tickets_in_order` meets its contract: after each turn the tickets of the numbers
+-- below p have been tested.
 -- Assumes nothing.
 use mathlib.Core.Path.{_≡_, refl, subst}
 use Prim.Native.Nat.{ℕ, _-_, _%_, _≤_}

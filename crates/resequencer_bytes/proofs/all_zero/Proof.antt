@@ -1,4 +1,4 @@
--- `resequencer_bytes::all_zero` meets its contract: after i turns i tickets are looked at.
+-- `resequencer_bytes::all_zero` meets its contract: after i turns i tickets have been tested.
 -- Assumes nothing.
 use mathlib.Core.Path.{_≡_, refl, sym, ap, ap₂, _∙_, subst}
 use mathlib.Core.Bool.{Bool}

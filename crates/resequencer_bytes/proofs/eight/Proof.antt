@@ -1,4 +1,5 @@
--- `resequencer_bytes::eight` meets its contract: bytes merged by shifts are the number that they write.
+-- `resequencer_bytes::eight` meets its contract: bytes merged by shifts are the number that they
+-- encode.
 -- Assumes nothing.
 use mathlib.Core.List.{[], _∷_}
 use native.Mathlib.Omega.{arith}

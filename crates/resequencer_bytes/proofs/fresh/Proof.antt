@@ -1,4 +1,5 @@
--- `resequencer_bytes::fresh` meets its contract: memory of another size is refused, else every byte becomes 0, and so is a fresh state's.
+-- `resequencer_bytes::fresh` meets its contract: memory of another size is refused; else every byte
+-- becomes 0, as in a fresh state.
 -- Assumes nothing.
 use mathlib.Core.Path.{_≡_, sym, _∙_}
 use Prim.Native.Nat.{_-_, _≤_}

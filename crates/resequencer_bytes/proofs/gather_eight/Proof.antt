@@ -1,4 +1,5 @@
--- `resequencer_bytes::gather_eight` meets its contract: after j turns the tickets of j numbers more are looked at.
+-- `resequencer_bytes::gather_eight` meets its contract: after j turns the tickets of j more numbers
+-- have been tested.
 -- Assumes nothing.
 use mathlib.Core.Path.{_≡_, refl, ap₂, _∙_, subst}
 use mathlib.Core.Bool.{Bool}

@@ -1,4 +1,5 @@
--- `resequencer_bytes::in_order` meets its contract: good order is that of the tickets and that of the numbers.
+-- `resequencer_bytes::in_order` meets its contract: good order is that of the numbers, with tickets
+-- that fit them.
 -- Assumes nothing.
 use mathlib.Core.Path.{sym, ap, _∙_}
 use borrow.Author.Needs.{needs}

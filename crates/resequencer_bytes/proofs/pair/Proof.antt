@@ -1,4 +1,5 @@
--- `resequencer_bytes::pair` meets its contract: bytes merged by shifts are the number that they write.
+-- `resequencer_bytes::pair` meets its contract: bytes merged by shifts are the number that they
+-- encode.
 -- Assumes nothing.
 use mathlib.Core.List.{[], _∷_}
 use native.Mathlib.Omega.{arith}

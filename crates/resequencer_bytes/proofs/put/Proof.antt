@@ -1,4 +1,5 @@
--- `resequencer_bytes::put` meets its contract: after i turns i bytes are written, and `rest` is the number of those to come.
+-- `resequencer_bytes::put` meets its contract: after i turns i bytes are written, and `rest` is the
+-- number that the other bytes encode.
 -- Assumes nothing.
 use mathlib.Core.Path.{_≡_, ap, _∙_}
 use Prim.Native.Nat.{_-_, _≤_}

@@ -1,4 +1,5 @@
--- `resequencer_bytes::tickets_in_order` meets its contract: either way it is asked of the numbers held.
+-- `resequencer_bytes::tickets_in_order` meets its contract: if nothing is held, the test for all
+-- tickets is the test for those of numbers not held.
 -- Assumes nothing.
 use mathlib.Core.Path.{sym, ap, _∙_}
 use Prim.Native.Nat.{ℕ}

@@ -1,4 +1,4 @@
--- `resequencer_bytes::word` meets its contract: eight places are all of eight bytes.
+-- `resequencer_bytes::word` meets its contract: the eight elements read are the whole slice.
 -- Assumes nothing.
 use mathlib.Core.Path.{_∙_}
 use borrow.Author.Needs.{needs}
@@ -6,10 +6,12 @@ use Rattle.resequencer_bytes.proofs.Reading.{eight-places}
 use Rattle.resequencer_bytes.proofs.word.Statement.{statement}
 use Rattle.resequencer_bytes.proofs.word.Tie as tie
 
+-- the function's start, seen from the place after `eight`
+abbrev start : tie.After-eight → tie.Start
+start c = c .before .before .before .before .before .before .before .before .before .before
+
 returns : tie.Need-returns
-returns c =
-    let s = c .before .before .before .before .before .before .before .before .before .before in
-    c .eight .ensures ∙ eight-places (s .args .bytes .now) (s .pre)
+returns c = c .eight .ensures ∙ eight-places (start c .args .bytes .now) (start c .pre)
 
 pub word-spec : {M : Type 1} → statement M
 word-spec =

@@ -1,4 +1,5 @@
--- `route::any_lost` meets its contract. The loop's invariant: where nothing was found so far, none of the addresses passed is lost.
+-- `route::any_lost` meets its contract. The loop's invariant: where nothing was found so far, none
+-- of the addresses passed is lost.
 -- Assumes nothing.
 use mathlib.Core.Path.{_≡_, refl, ap, sym, _∙_}
 use mathlib.Core.Bool.{Bool, true, false, _||_, false≢true}

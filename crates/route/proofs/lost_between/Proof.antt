@@ -1,4 +1,5 @@
--- `route::lost_between` meets its contract. The loop's invariant: the report so far is that of the blocks passed.
+-- `route::lost_between` meets its contract. The loop's invariant: the report so far is that of the
+-- blocks passed.
 -- Assumes nothing.
 use mathlib.Core.Path.{_≡_, ap, _∙_}
 use Prim.Native.Nat.{ℕ, _+_, _-_, _*_, _≤_}

@@ -1,4 +1,5 @@
--- `route::mark_all` meets its contract. The loop's invariant: to mark the addresses that are left, in the sets as they are now, is to mark all.
+-- `route::mark_all` meets its contract. The loop's invariant: marking the addresses that are left,
+-- in the sets as they are now, has the same result as marking all.
 -- Assumes nothing.
 use mathlib.Core.Path.{_≡_, sym, _∙_}
 use Prim.Native.Nat.{_≤_, _-_}

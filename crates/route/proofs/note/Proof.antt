@@ -1,4 +1,4 @@
--- `route::note` meets its contract: the test tells which case of `noted` holds.
+-- `route::note` meets its contract: the test decides the case of `noted`.
 -- Assumes nothing.
 use borrow.Author.Needs.{needs}
 use Rattle.route.specs.Parts.{noted}

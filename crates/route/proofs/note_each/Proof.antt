@@ -1,4 +1,5 @@
--- `route::note_each` meets its contract. The loop's invariant: the report so far is that of the addresses passed.
+-- `route::note_each` meets its contract. The loop's invariant: the report so far is that of the
+-- addresses passed.
 -- Assumes nothing.
 use mathlib.Core.Path.{_≡_, ap, _∙_}
 use Prim.Native.Nat.{ℕ, _+_, _-_, _≤_, _<_}

@@ -1,4 +1,5 @@
--- `route::settle` meets its contract. The loop's invariant: the sets of the first addresses are written.
+-- `route::settle` meets its contract. The loop's invariant: the sets of the first addresses are
+-- written.
 -- Assumes nothing.
 use mathlib.Core.Path.{_≡_, ap, ap₂, _∙_}
 use mathlib.Core.List.{List}

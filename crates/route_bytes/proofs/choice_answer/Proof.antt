@@ -1,14 +1,15 @@
--- `route_bytes::choice_answer` meets its contract: the choice and its clearing tell which case of `choiceAnswer` holds.
+-- `route_bytes::choice_answer` meets its contract: the choice and its clearing codes decide the
+-- case of `choiceAnswer`.
 -- Assumes nothing.
 use mathlib.Core.Path.{_≡_, sym, ap, _∙_}
 use Prim.Native.Nat.{ℕ, _+_, _*_}
 use native.Mathlib.Omega.{arith}
 use borrow.Author.Needs.{needs}
-use Rattle.interrogator.specs.declared.Choice.{Choice}
-use Rattle.interrogator.specs.declared.Choice.the-variants.{Chosen, Refused as NotChosen}
-use Rattle.interrogator.specs.declared.Clearing.{Clearing}
-use Rattle.interrogator.specs.declared.Clearing.the-variants.{Codes, Nothing as NoCodes}
-use Rattle.interrogator.specs.Choosing.{choiceNumber, choiceCode, clearingOf}
+use Rattle.route_choice.specs.declared.Choice.{Choice}
+use Rattle.route_choice.specs.declared.Choice.the-variants.{Chosen, Refused as NotChosen}
+use Rattle.route_choice.specs.declared.Clearing.{Clearing}
+use Rattle.route_choice.specs.declared.Clearing.the-variants.{Codes, Nothing as NoCodes}
+use Rattle.route_choice.specs.Choosing.{choiceNumber, choiceCode, clearingOf}
 use Rattle.refusal.specs.declared.Refusal.{Refusal}
 use Rattle.route_bytes.specs.Stored.{causeOf, diagnosticOf, choiceAnswer}
 use Rattle.route_bytes.proofs.choice_answer.Statement.{statement}

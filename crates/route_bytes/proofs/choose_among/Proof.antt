@@ -1,4 +1,5 @@
--- `route_bytes::choose_among` meets its contract: the number tells the last-used code, the choice is made, and told as a number.
+-- `route_bytes::choose_among` meets its contract: the number gives the last-used code, and the
+-- choice is answered as a number.
 -- Assumes nothing.
 use mathlib.Core.Path.{_≡_, sym, ap, _∙_}
 use mathlib.Core.Logic.{_≢_}
@@ -6,12 +7,12 @@ use Prim.Native.Nat.{ℕ, _<_, _≤_, min}
 use native.Mathlib.Omega.{arith}
 use borrow.Author.Needs.{needs}
 use borrow.Author.Tests.{eq-eqb, ne-eqb}
-use Rattle.interrogator.specs.declared.LastUsed.{LastUsed}
-use Rattle.interrogator.specs.declared.LastUsed.the-variants.{Code, Nothing as NoCode}
-use Rattle.interrogator.specs.declared.Choice.{Choice}
-use Rattle.interrogator.specs.Choosing.{chooseOf}
-use Rattle.interrogator.proofs.Cases.{out-of-range}
-use Rattle.route_bytes.specs.Stored.{lastIn, choiceAnswer, chooseAmongCode}
+use Rattle.route_choice.specs.declared.LastUsed.{LastUsed}
+use Rattle.route_choice.specs.declared.LastUsed.the-variants.{Code, Nothing as NoCode}
+use Rattle.route_choice.specs.declared.Choice.{Choice}
+use Rattle.route_choice.specs.Choosing.{chooseOf}
+use Rattle.route_choice.proofs.Cases.{out-of-range}
+use Rattle.route_bytes.specs.Stored.{lastIn, choiceAnswer, chooseAmongAnswer}
 use Rattle.route_bytes.proofs.choose_among.Statement.{statement}
 use Rattle.route_bytes.proofs.choose_among.Tie as tie
 
@@ -28,11 +29,11 @@ none-in n h = simp (eq-eqb n 65535 h)
 
 module _ (codes failed n : ℕ) where
   told : (last : LastUsed) → lastIn n ≡ last → (choice : Choice) → choice ≡ chooseOf codes last failed → (answer : ℕ) → answer ≡ choiceAnswer choice
-      → answer ≡ chooseAmongCode codes n failed
+      → answer ≡ chooseAmongAnswer codes n failed
   told last e choice f answer g =
       g ∙ ap choiceAnswer (f ∙ ap (λ (l : LastUsed). chooseOf codes l failed) (sym e))
 
-  over : 16 ≤ n → n ≢ 65535 → 1 ≡ chooseAmongCode codes n failed
+  over : 16 ≤ n → n ≢ 65535 → 1 ≡ chooseAmongAnswer codes n failed
   over h k =
       let m : 16 ≤ min n 255 = omega arith in
       sym (ap choiceAnswer (ap (λ (l : LastUsed). chooseOf codes l failed) (code-in n k) ∙ out-of-range codes failed (min n 255) m))

@@ -1,4 +1,4 @@
--- `route_bytes::count` meets its contract: the length tells which case holds.
+-- `route_bytes::count` meets its contract: the length decides the case.
 -- Assumes nothing.
 use borrow.Author.Needs.{needs}
 use borrow.Author.Tests.{eq-eqb, ne-eqb}

@@ -1,4 +1,5 @@
--- `route_bytes::read_table` meets its contract. The loop's invariant: the sets of the first addresses are read.
+-- `route_bytes::read_table` meets its contract. The loop's invariant: the sets of the first
+-- addresses are read.
 -- Assumes nothing.
 use mathlib.Core.Path.{_≡_, ap₂, _∙_}
 use mathlib.Core.List.{List}

@@ -1,4 +1,5 @@
--- `route_bytes::write_table` meets its contract. The loop's invariant: the bytes of the first sets are written.
+-- `route_bytes::write_table` meets its contract. The loop's invariant: the bytes of the first sets
+-- are written.
 -- Assumes nothing.
 use mathlib.Core.Path.{_≡_, refl, _∙_}
 use Prim.Native.Nat.{_-_, _*_, _%_, _≤_, _<_}

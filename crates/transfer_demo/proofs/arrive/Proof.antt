@@ -4,7 +4,7 @@ use mathlib.Core.Path.{_≡_, ap, _∙_}
 use Prim.Native.Nat.{ℕ}
 use borrow.Author.Needs.{needs}
 use Rattle.resequencer.specs.Events.{arriveOf}
-use Rattle.transfer.specs.Circuit.{snOf}
+use Rattle.frame.specs.Reading.{snIn}
 use Rattle.transfer_demo.proofs.arrive.Statement.{statement}
 use Rattle.transfer_demo.proofs.arrive.Tie as tie
 
@@ -12,7 +12,7 @@ returns : tie.Need-returns
 returns c =
     let a = c .before .before .before .before .args in
     let called : c .arrive .result ≡ arriveOf (a .state) (c .before .number-of .result) (a .place) = c .arrive .ensures in
-    called ∙ ap (λ (n : ℕ). arriveOf (a .state) n (a .place)) (c .before .number-of .ensures ∙ ap snOf (c .before .before .read-frame .ensures))
+    called ∙ ap (λ (n : ℕ). arriveOf (a .state) n (a .place)) (c .before .number-of .ensures ∙ ap snIn (c .before .before .read-frame .ensures))
 
 pub arrive-spec : {M : Type 1} → statement M
 arrive-spec = tie.close (tie.spec (λ c κs. search needs) (λ c κs. search needs) (λ c. search needs) (λ c κs. search needs) returns)

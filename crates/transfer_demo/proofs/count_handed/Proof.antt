@@ -1,4 +1,5 @@
--- `transfer_demo::count_handed` meets its contract: of 32 tickets the first so many, or all.
+-- `transfer_demo::count_handed` meets its contract: the first `count` of the 32 tickets, or all of
+-- them.
 -- Assumes nothing.
 use mathlib.Core.Path.{_≡_}
 use native.Mathlib.Omega.{arith}

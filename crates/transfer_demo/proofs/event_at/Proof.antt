@@ -1,12 +1,13 @@
--- `transfer_demo::event_at` meets its contract: each number of a turn has its event, and the last is a stray arrival.
+-- `transfer_demo::event_at` meets its contract: each number of a turn has its event, and the last
+-- is a stray arrival.
 -- Assumes nothing.
 use mathlib.Core.Path.{_≡_, sym, ap}
 use Prim.Native.Nat.{ℕ, suc, _*_, _/_, _%_, _≤_, zero-le}
 use native.Mathlib.Omega.{arith}
 use lib.ListN.{getD}
 use borrow.Author.Needs.{needs}
-use Rattle.history.specs.Events.{stray}
-use Rattle.transfer.specs.Rule.{turns, callAt}
+use Rattle.resequencer_claims.specs.Events.{stray}
+use Rattle.transfer_claims.specs.Rule.{turns, callAt}
 use Rattle.transfer_demo.proofs.event_at.Statement.{statement}
 use Rattle.transfer_demo.proofs.event_at.Tie as tie
 
@@ -20,7 +21,7 @@ above h q = omega arith
 last-turn : (step : ℕ) → 11 ≤ step % 12 → stray 64 0 ≡ callAt step
 last-turn step h = let e : step % 12 ≡ 11 = omega arith in turn step 11 e
 
--- none of the eleven before
+-- the step is not one of the first eleven
 rest : (c : tie.At-match-rest) → 11 ≤ c .before .args .step % 12
 rest c =
     let r = c .match .rest in

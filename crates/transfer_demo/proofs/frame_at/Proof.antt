@@ -1,4 +1,5 @@
--- `transfer_demo::frame_at` meets its contract: the frame at the place is among those from place i on, which begin at byte `at`.
+-- `transfer_demo::frame_at` meets its contract: the frame at the place is among those from place i
+-- on, which begin at byte `at`.
 -- Assumes nothing.
 use Prim.Native.Nat.{_-_}
 use native.Mathlib.Omega.{arith}

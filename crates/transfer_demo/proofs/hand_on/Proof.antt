@@ -7,7 +7,7 @@ use native.Mathlib.Omega.{arith}
 use lib.ListN.{length, take}
 use borrow.Author.Needs.{needs}
 use Rattle.lists.specs.Frames.{partsOf}
-use Rattle.transfer.specs.Circuit.{frameAt}
+use Rattle.transfer_claims.specs.Circuit.{frameAt}
 use Rattle.transfer_demo.proofs.Keeping.{Taken, taken-none, taken-more, same-frames, tickets-more, tickets-all}
 use Rattle.transfer_demo.proofs.hand_on.Statement.{statement}
 use Rattle.transfer_demo.proofs.hand_on.Tie as tie
@@ -22,24 +22,35 @@ abbrev μ-loop : tie.MeasureT-loop
 long : (c : tie.Start Inv-loop μ-loop) → length (c .args .answer .tickets) ≡ 32
 long c = search needs
 
+-- the function's start, seen from the loop's head
+abbrev start : tie.At-loop Inv-loop μ-loop → tie.Start Inv-loop μ-loop
+start c = c .before .before .before .before .before .before .before
+
+-- the loop's head, seen from the place after `keep`
+abbrev head : tie.After-keep Inv-loop μ-loop → tie.At-loop Inv-loop μ-loop
+head c = c .before .before .before .before .before
+
 loop-holds : tie.Need-loop-holds Inv-loop μ-loop
-loop-holds c = (omega arith, taken-none _ _ _ (c .before .before .before .before .before .before .pre .0) (c .before .before .before .before .before .before .pre .1))
+loop-holds c = let s = c .before .before .before .before .before .before in (omega arith, taken-none _ _ _ (s .pre .0) (s .pre .1))
 
 loop-again : tie.Need-loop-again Inv-loop μ-loop
 loop-again c =
-    let a = c .before .before .before .before .before .before .before .before .before .before .before .before .before .before .before .before .args in
-    let l = c .before .before .before .before .before .before .before .before .before .loop in
-    let k = c .before .before .before .before .keep in
-    let t : l .i < length (a .answer .tickets) = omega (arith, c .before .before .before .before .before .before .before .before .loop-test .taken, c .before .before .before .before .before .before .before .before .before .before .count-handed .ensures .1, long (c .before .before .before .before .before .before .before .before .before .before .before .before .before .before .before .before)) in (
-      omega (arith, c .before .before .before .before .before .before .before .before .loop-test .taken),
+    let p = c .before .before .before .before in
+    let h = head p in
+    let a = start h .args in
+    let l = h .loop in
+    let k = p .keep in
+    let goes = p .before .before .before .before .loop-test .taken in
+    let t : l .i < length (a .answer .tickets) = omega (arith, goes, h .before .count-handed .ensures .1, long (start h)) in (
+      omega (arith, goes),
       same-frames _ _ _ _ _ _
-          (tickets-more (partsOf (a .lengths .now) (a .frames .now)) (a .answer .tickets) (l .i) t (c .before .before .before .before .before .before .before .frame-at .ensures))
+          (tickets-more (partsOf (a .lengths .now) (a .frames .now)) (a .answer .tickets) (l .i) t (p .before .before .before .frame-at .ensures))
           (taken-more _ _ _ _ _ _ _ _ _ _ _ (l .inv .1) (k .kept .1 .0) (k .kept .1 .1 .0) (k .ensures .0) (k .ensures .1)),
     )
 
 returns : tie.Need-returns Inv-loop μ-loop
 returns c =
-    let a = c .before .before .before .before .before .before .before .before .args in
+    let a = start (c .before) .args in
     let v = c .before .loop .inv in
     let z : c .before .loop .i ≡ c .before .before .count-handed .result = omega (arith, v .0, c .loop-test .left) in
     let w = same-frames _ _ _ _ _ _

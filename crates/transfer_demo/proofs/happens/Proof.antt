@@ -1,16 +1,16 @@
--- `transfer_demo::happens` meets its contract: a frame's place is below the count.
+-- `transfer_demo::happens` meets its contract: a frame arrives if its place is below the count.
 -- Assumes nothing.
 use mathlib.Core.Path.{_≡_, sym, ap}
 use Prim.Native.Nat.{ℕ}
 use borrow.Author.Needs.{needs}
-use Rattle.transfer.specs.Rule.{takesPlace}
+use Rattle.transfer_claims.specs.Rule.{takesPlace}
 use Rattle.transfer_demo.specs.declared.Event.{Event}
-use Rattle.transfer_demo.specs.Calls.{callOf}
+use Rattle.transfer_demo.specs.Calls.{eventOf}
 use Rattle.transfer_demo.proofs.happens.Statement.{statement}
 use Rattle.transfer_demo.proofs.happens.Tie as tie
 
-told : (count : ℕ) {event x : Event} → event ≡ x → takesPlace count (callOf x) ≡ takesPlace count (callOf event)
-told count e = sym (ap (λ (x : Event). takesPlace count (callOf x)) e)
+told : (count : ℕ) {event x : Event} → event ≡ x → takesPlace count (eventOf x) ≡ takesPlace count (eventOf event)
+told count e = sym (ap (λ (x : Event). takesPlace count (eventOf x)) e)
 
 returns : tie.Need-returns
 returns c = told (c .before .before .before .args .count) (c .before .event .given .1)

@@ -1,4 +1,5 @@
--- `transfer_demo::receive` meets its contract: what is kept, and the frames that the calls from step i on hand on, make what is kept in the end.
+-- `transfer_demo::receive` meets its contract: what is kept, and the frames that the calls from
+-- step i on hand on, make what is kept in the end.
 -- Assumes nothing.
 use mathlib.Core.Path.{sym, _∙_}
 use Prim.Native.Nat.{_-_}
@@ -17,18 +18,29 @@ Inv-loop lengths frames received₀ sizes₀ steps state₀ handed₀ i₀ recei
 abbrev μ-loop : tie.MeasureT-loop
 μ-loop lengths frames received₀ sizes₀ steps state₀ handed₀ i₀ received sizes state handed i = steps - i
 
+-- the loop's head, seen from the place where an event takes place; the function's start, seen from
+-- there
+abbrev head : tie.Then1 Inv-loop μ-loop → tie.At-loop Inv-loop μ-loop
+head c = c .before .before .before .before
+
+abbrev start : tie.At-loop Inv-loop μ-loop → tie.Start Inv-loop μ-loop
+start c = c .before .before .before .before .before .before
+
 answer-to-requires : tie.Need-answer-to-requires Inv-loop μ-loop
-answer-to-requires c κs = (sym (c .before .happens .ensures) ∙ c .if1 .taken, omega (arith, c .before .before .before .before .before .before .before .before .before .before .pre))
+answer-to-requires c κs = (sym (c .before .happens .ensures) ∙ c .if1 .taken, omega (arith, start (head c) .pre))
 
 hand-on-requires : tie.Need-hand-on-requires Inv-loop μ-loop
-hand-on-requires c κs = let h = c .before .before .before .before .before .before .before .before .loop .inv .holds in (h .count-fits, h .total-fits)
+hand-on-requires c κs = let h = head (c .before .before .before .before) .loop .inv .holds in (h .count-fits, h .total-fits)
 
 loop-again : tie.Need-loop-again Inv-loop μ-loop
 loop-again c =
-    let k = c .before .before .before .before .before .hand-on in
-    turn-made _ _ _ _ _ _ _ _ _ _ (c .before .before .before .before .before .before .before .before .before .before .before .before .before .before .loop .inv) (c .before .before .before .before .before .before .before .before .before .before .before .before .before .loop-test .taken) _ (c .before .before .before .before .before .before .before .before .before .before .before .before .event-at .ensures)
-    (c .before .before .before .before .before .before .before .before .before .answer-to .result) _ _ (k .result) (sym (c .before .before .before .before .before .before .before .before .before .before .before .happens .ensures) ∙ c .before .before .before .before .before .before .before .before .before .before .if1 .taken) (c .before .before .before .before .before .before .before .before .before .answer-to .ensures)
-    (k .kept .1 .1 .1 .0) (k .kept .1 .1 .1 .1 .0) (k .ensures .1)
+    let k = c .before .before .before .before .before in
+    let w = k .hand-on in
+    let r = k .before .before .before .before in
+    let t = r .before in
+    turn-made _ _ _ _ _ _ _ _ _ _ (head t .loop .inv) (t .before .before .before .loop-test .taken) _ (t .before .before .event-at .ensures)
+    (r .answer-to .result) _ _ (w .result) (sym (t .before .happens .ensures) ∙ t .if1 .taken) (r .answer-to .ensures)
+    (w .kept .1 .1 .1 .0) (w .kept .1 .1 .1 .1 .0) (w .ensures .1)
 
 loop-again-2 : tie.Need-loop-again-2 Inv-loop μ-loop
 loop-again-2 c = turn-left-out _ _ _ _ _ _ _ _ _ _ (c .before .before .before .before .loop .inv) (c .before .before .before .loop-test .taken) _ (c .before .before .event-at .ensures) (sym (c .before .happens .ensures) ∙ c .if1 .left)

@@ -1,4 +1,5 @@
--- `window_bytes::is_receiver` meets its contract: the first test decides, or leaves it to the second.
+-- `window_bytes::is_receiver` meets its contract: the first test decides, or leaves it to the
+-- second.
 -- Assumes nothing.
 use borrow.Author.Needs.{needs}
 use borrow.Author.Tests.{eq-eqb, ne-eqb}

@@ -11,8 +11,8 @@ use Rattle.window_bytes.proofs.put_receiver.Tie as tie
 returns : tie.Need-returns
 returns c =
     let s = c .before .before in
-    three-written (s .args .state .now) (s .args .end .expected .0) (c .flag-of .result) (s .args .end .untold) (s .pre)
-    ∙ ap (λ (m : ℕ). s .args .end .expected .0 ∷ m ∷ s .args .end .untold ∷ []) (c .flag-of .ensures)
+    three-written (s .args .state .now) (s .args .end .expected .0) (c .flag .result) (s .args .end .untold) (s .pre)
+    ∙ ap (λ (m : ℕ). s .args .end .expected .0 ∷ m ∷ s .args .end .untold ∷ []) (c .flag .ensures)
 
 pub put-receiver-spec : {M : Type 1} → statement M
 put-receiver-spec =

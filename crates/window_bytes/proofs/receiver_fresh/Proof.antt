@@ -1,18 +1,19 @@
--- `window_bytes::receiver_fresh` meets its contract: the length decides, and the fresh end is written.
+-- `window_bytes::receiver_fresh` meets its contract: the length decides, and the fresh end is
+-- written.
 -- Assumes nothing.
 use mathlib.Core.Path.{refl, ap, _∙_}
 use borrow.Author.Needs.{needs}
 use borrow.Author.Tests.{eq-eqb, ne-eqb}
-use Rattle.window_bytes.specs.Stored.{freshReceiverCode, freshReceiverBytes, receiverBytes}
+use Rattle.window_bytes.specs.Stored.{freshReceiverAnswer, freshReceiverBytes, receiverBytes}
 use Rattle.window_bytes.proofs.receiver_fresh.Statement.{statement}
 use Rattle.window_bytes.proofs.receiver_fresh.Tie as tie
 
 returns : tie.Need-returns
-unfolding freshReceiverCode freshReceiverBytes
+unfolding freshReceiverAnswer freshReceiverBytes
 returns c = rw (eq-eqb _ _ (c .before .before .before .before .before .if1 .taken)) (refl, c .before .before .put-receiver .ensures ∙ ap receiverBytes (c .before .before .before .fresh .ensures))
 
 returns-2 : tie.Need-returns-2
-unfolding freshReceiverCode freshReceiverBytes
+unfolding freshReceiverAnswer freshReceiverBytes
 returns-2 c = rw (ne-eqb _ _ (c .if1 .left)) (refl, refl)
 
 pub receiver-fresh-spec : {M : Type 1} → statement M

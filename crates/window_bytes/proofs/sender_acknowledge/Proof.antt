@@ -1,28 +1,39 @@
--- `window_bytes::sender_acknowledge` meets its contract: on an encoded end the call answers and moves it, and else nothing is written.
+-- `window_bytes::sender_acknowledge` meets its contract: bytes that encode an end get the answer
+-- and the next state; to others nothing is written.
 -- Assumes nothing.
 use mathlib.Core.Path.{_≡_, refl, ap, _∙_}
 use borrow.Author.Needs.{needs}
 use borrow.Author.Tests.{eq-eqb, ne-eqb}
-use Rattle.sender.specs.declared.Sender.{Sender}
-use Rattle.sender.specs.declared.Acknowledged.{Acknowledged}
-use Rattle.sender.specs.Sending.{acknowledgeOf}
+use Rattle.window.specs.declared.sender.Sender.{Sender}
+use Rattle.window.specs.declared.sender.Acknowledged.{Acknowledged}
+use Rattle.window.specs.Sending.{acknowledgeOf}
 use Rattle.refusal.specs.Numbers.{verdictNumber}
-use Rattle.window_bytes.specs.Stored.{senderIn, senderBytes, isSender, acknowledgeCode, acknowledgeBytes}
+use Rattle.window_bytes.specs.Stored.{senderIn, senderBytes, isSender, acknowledgeAnswer, acknowledgeBytes}
 use Rattle.window_bytes.proofs.sender_acknowledge.Statement.{statement}
 use Rattle.window_bytes.proofs.sender_acknowledge.Tie as tie
 
+-- the start, seen from the call of `acknowledge`
+abbrev start : tie.After-acknowledge → tie.Start
+start c = c .before .before .before .before .before
+
+-- the call of `acknowledge`, seen from the return
+abbrev asked : tie.After-number → tie.After-acknowledge
+asked c = c .before .before .before .before .before
+
+answered : (c : tie.After-acknowledge) → c .acknowledge .result ≡ acknowledgeOf (senderIn (start c .args .state .now)) (start c .args .pr)
+answered c = c .acknowledge .ensures ∙ ap (λ (s : Sender). acknowledgeOf s (start c .args .pr)) (c .before .sender-in .ensures)
+
 returns : tie.Need-returns
-unfolding isSender acknowledgeCode acknowledgeBytes
+unfolding isSender acknowledgeAnswer acknowledgeBytes
 returns c =
-    let a = c .before .before .before .before .before .before .before .before .before .before .args in
-    let e : c .before .before .before .before .before .acknowledge .result ≡ acknowledgeOf (senderIn (a .state .now)) (a .pr) = c .before .before .before .before .before .acknowledge .ensures ∙ ap (λ (s : Sender). acknowledgeOf s (a .pr)) (c .before .before .before .before .before .before .sender-in .ensures) in
-    rw (eq-eqb _ _ (c .before .before .before .before .before .before .before .before .if1 .taken)) (
+    let e = answered (asked c) in
+    rw (eq-eqb _ _ (asked c .before .before .before .if1 .taken)) (
       c .number .ensures ∙ ap (λ (r : Acknowledged). verdictNumber (r .verdict)) e,
-      c .before .before .before .put-sender .ensures ∙ ap (λ (r : Acknowledged). senderBytes (r .end)) e,
+      c .before .before .before .put-sender .ensures ∙ ap (λ (r : Acknowledged). senderBytes (r .next)) e,
     )
 
 returns-2 : tie.Need-returns-2
-unfolding isSender acknowledgeCode acknowledgeBytes
+unfolding isSender acknowledgeAnswer acknowledgeBytes
 returns-2 c = rw (ne-eqb _ _ (c .if1 .left)) (refl, refl)
 
 pub sender-acknowledge-spec : {M : Type 1} → statement M

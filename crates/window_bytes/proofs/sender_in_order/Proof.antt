@@ -1,23 +1,24 @@
--- `window_bytes::sender_in_order` meets its contract: each way out knows the tests that led there.
+-- `window_bytes::sender_in_order` meets its contract: at each exit the tests that led there are
+-- known.
 -- Assumes nothing.
 use mathlib.Core.Path.{sym, ap, _∙_}
 use borrow.Author.Needs.{needs}
 use borrow.Author.Tests.{eq-eqb, ne-eqb}
-use Rattle.sender.specs.Sending.{senderGood}
-use Rattle.window_bytes.specs.Stored.{isSender, senderOrder}
+use Rattle.window.specs.Sending.{senderInOrder}
+use Rattle.window_bytes.specs.Stored.{isSender, senderOrderAnswer}
 use Rattle.window_bytes.proofs.sender_in_order.Statement.{statement}
 use Rattle.window_bytes.proofs.sender_in_order.Tie as tie
 
 returns : tie.Need-returns
-unfolding isSender senderOrder
-returns c = simp (eq-eqb _ _ (c .before .before .before .if1 .taken), ap senderGood (sym (c .before .before .sender-in .ensures)) ∙ sym (c .before .in-order .ensures) ∙ c .if2 .taken)
+unfolding isSender senderOrderAnswer
+returns c = simp (eq-eqb _ _ (c .before .before .before .if1 .taken), ap senderInOrder (sym (c .before .before .sender-in .ensures)) ∙ sym (c .before .in-order .ensures) ∙ c .if2 .taken)
 
 returns-2 : tie.Need-returns-2
-unfolding isSender senderOrder
-returns-2 c = simp (eq-eqb _ _ (c .before .before .before .if1 .taken), ap senderGood (sym (c .before .before .sender-in .ensures)) ∙ sym (c .before .in-order .ensures) ∙ c .if2 .left)
+unfolding isSender senderOrderAnswer
+returns-2 c = simp (eq-eqb _ _ (c .before .before .before .if1 .taken), ap senderInOrder (sym (c .before .before .sender-in .ensures)) ∙ sym (c .before .in-order .ensures) ∙ c .if2 .left)
 
 returns-3 : tie.Need-returns-3
-unfolding isSender senderOrder
+unfolding isSender senderOrderAnswer
 returns-3 c = simp (ne-eqb _ _ (c .if1 .left))
 
 pub sender-in-order-spec : {M : Type 1} → statement M

@@ -1,10 +1,11 @@
--- `window_bytes::sender_send` meets its contract: a grant writes the next PS, and a refusal and other bytes write nothing.
+-- `window_bytes::sender_send` meets its contract: a grant writes the next PS; a refusal, and bytes
+-- that encode no end, write nothing.
 -- Assumes nothing.
 use mathlib.Core.Path.{_≡_, refl, ap, _∙_}
 use borrow.Author.Needs.{needs}
 use borrow.Author.Tests.{ne-eqb}
-use Rattle.sender.specs.Sending.{sendOf}
-use Rattle.window_bytes.specs.Stored.{isSender, senderIn, sendCode, sendBytes}
+use Rattle.window.specs.Sending.{sendOf}
+use Rattle.window_bytes.specs.Stored.{isSender, senderIn, sendAnswer, sendBytes}
 use Rattle.window_bytes.proofs.Calls.{granted, not-granted}
 use Rattle.window_bytes.proofs.sender_send.Statement.{statement}
 use Rattle.window_bytes.proofs.sender_send.Tie as tie
@@ -23,7 +24,7 @@ returns-2 c =
     not-granted _ (s .before .before .before .if1 .taken) _ (sent s) _ (c .before .before .answer2 .given .1) _ (c .number .ensures)
 
 returns-3 : tie.Need-returns-3
-unfolding isSender sendCode sendBytes
+unfolding isSender sendAnswer sendBytes
 returns-3 c = rw (ne-eqb _ _ (c .if1 .left)) (refl, refl)
 
 pub sender-send-spec : {M : Type 1} → statement M

@@ -1,4 +1,5 @@
--- `frame::ClearConfirmation::from` meets its contract: AG is the last field, so that nothing stands below it.
+-- `frame::ClearConfirmation::from` meets its contract: AG is the last field, so that no division is
+-- needed to read it.
 -- Assumes nothing.
 use native.Mathlib.Nat.{div-one}
 use borrow.Author.Needs.{needs}

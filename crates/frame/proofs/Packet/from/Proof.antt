@@ -1,4 +1,4 @@
--- `frame::Packet::from` meets its contract: each kind's.
+-- `frame::Packet::from` meets its contract: each kind's case follows from the call for that kind.
 -- Assumes nothing.
 use borrow.Author.Needs.{needs}
 use Rattle.frame.proofs.Packet.from.Statement.{statement}

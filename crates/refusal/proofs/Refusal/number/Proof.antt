@@ -1,4 +1,5 @@
--- `refusal::Refusal::number` meets its contract: in each arm the case is told, and `numberOf` computes at it.
+-- `refusal::Refusal::number` meets its contract: in each arm the case is known, and `numberOf`
+-- computes its number.
 -- Assumes nothing.
 use borrow.Author.Needs.{needs}
 use Rattle.refusal.proofs.Refusal.number.Statement.{statement}

@@ -1,4 +1,5 @@
--- `resequencer::Numbers::arrive` meets its contract: the verdict tells which case of `arriveOf` holds.
+-- `resequencer::Numbers::arrive` meets its contract: the verdict decides which case of `arriveOf`
+-- applies.
 -- Assumes nothing.
 use mathlib.Core.Path.{sym, _∙_}
 use borrow.Author.Needs.{needs}

@@ -1,4 +1,5 @@
--- `resequencer::Numbers::check_clock_end` meets its contract: each way out knows the tests that led there.
+-- `resequencer::Numbers::check_clock_end` meets its contract: each way out knows the tests that led
+-- there.
 -- Assumes nothing.
 use mathlib.Core.Path.{sym, _∙_}
 use mathlib.Core.Logic.{⊎-elim}

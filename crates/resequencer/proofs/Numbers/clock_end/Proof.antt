@@ -1,4 +1,5 @@
--- `resequencer::Numbers::clock_end` meets its contract: the verdict tells which case of `clockEndOf` holds.
+-- `resequencer::Numbers::clock_end` meets its contract: the verdict decides which case of
+-- `clockEndOf` applies.
 -- Assumes nothing.
 use mathlib.Core.Path.{sym, _∙_}
 use borrow.Author.Needs.{needs}

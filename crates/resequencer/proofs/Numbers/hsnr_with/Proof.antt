@@ -1,4 +1,5 @@
--- `resequencer::Numbers::hsnr_with` meets its contract: each way out knows the tests that led there.
+-- `resequencer::Numbers::hsnr_with` meets its contract: each way out knows the tests that led
+-- there.
 -- Assumes nothing.
 use mathlib.Core.Path.{sym, _∙_}
 use native.Mathlib.Omega.{arith}

@@ -1,4 +1,5 @@
--- `resequencer::Numbers::pass` meets its contract: NESN is then m numbers on.
+-- `resequencer::Numbers::pass` meets its contract: the distance from the old NESN to the new one is
+-- m.
 -- Assumes nothing.
 use borrow.Author.Needs.{needs}
 use Rattle.resequencer.proofs.Steps.{pass-step}

@@ -1,4 +1,5 @@
--- `resequencer::Numbers::starts_clock` meets its contract: each way out knows the tests that led there.
+-- `resequencer::Numbers::starts_clock` meets its contract: each way out knows the tests that led
+-- there.
 -- Assumes nothing.
 use native.Mathlib.Omega.{arith}
 use borrow.Author.Needs.{needs}

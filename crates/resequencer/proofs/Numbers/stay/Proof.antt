@@ -1,4 +1,4 @@
--- `resequencer::Numbers::stay` meets its contract: no number is between NESN and itself.
+-- `resequencer::Numbers::stay` meets its contract: the distance from NESN to itself is 0.
 -- Assumes nothing.
 use Rattle.resequencer.proofs.Steps.{still}
 use Rattle.resequencer.proofs.Numbers.stay.Statement.{statement}

@@ -1,4 +1,5 @@
--- `resequencer::Numbers::take_arrival` meets its contract: each way out is a case of the definition.
+-- `resequencer::Numbers::take_arrival` meets its contract: each way out is a case of the
+-- definition.
 -- Assumes nothing.
 use mathlib.Core.Path.{_≡_, sym, ap, _∙_, subst}
 use Prim.Native.Nat.{ℕ, _≤_, _<_}
@@ -15,37 +16,65 @@ use Rattle.resequencer.proofs.Steps.{passed-run}
 use Rattle.resequencer.proofs.Numbers.take_arrival.Statement.{statement}
 use Rattle.resequencer.proofs.Numbers.take_arrival.Tie as tie
 
-the-run : (c : tie.After-run) → c .run .result ≡ runAfterNesn (bare (c .before .before .before .before .before .before .before .before .args .self))
+-- the function's start, seen from the place after `distance_to`
+abbrev start : tie.After-distance-to → tie.Start
+start c = c .before .before
+
+-- the place after `distance_to`, seen from the place after `member`
+abbrev measured : tie.After-member → tie.After-distance-to
+measured c = c .before .before
+
+-- the place after `member`, seen from the place after `run`
+abbrev looked : tie.After-run → tie.After-member
+looked c = c .before .before .before .before
+
+-- the function's start, seen from the place after `run`
+abbrev start-run : tie.After-run → tie.Start
+start-run c = start (measured (looked c))
+
+the-run : (c : tie.After-run) → c .run .result ≡ runAfterNesn (bare (start-run c .args .self))
 the-run c =
     unfold runAfterNesn in
-    c .run .ensures ∙ ap (λ (n : LinkNumber). run 64 (c .before .before .before .before .before .before .before .before .args .self .held) (n .0)) (c .before .next .ensures)
+    c .run .ensures ∙ ap (λ (n : LinkNumber). run 64 (start-run c .args .self .held) (n .0)) (c .before .next .ensures)
 
 few : (c : tie.After-run) → c .run .result ≤ 31
-few c = omega (arith, the-run c, run-after-bound (bare (c .before .before .before .before .before .before .before .before .args .self)) (in-order (bare (c .before .before .before .before .before .before .before .before .args .self)) (c .before .before .before .before .before .before .before .before .pre .0)))
+few c =
+    let s = bare (start-run c .args .self) in
+    omega (arith, the-run c, run-after-bound s (in-order s (start-run c .pre .0)))
 
 pass-requires : tie.Need-pass-requires
-pass-requires c κs = (in-order (bare (c .before .before .before .before .before .before .before .before .args .self)) (c .before .before .before .before .before .before .before .before .pre .0) .nesn-lt, omega (arith, few c))
+pass-requires c κs = (in-order (bare (start-run c .args .self)) (start-run c .pre .0) .nesn-lt, omega (arith, few c))
 
 returns : tie.Need-returns
 returns c =
-    c .stay .ensures
-    ∙ ap (stepBy (c .before .before .before .before .args .self)) (sym (old (bare (c .before .before .before .before .args .self)) _ _ (subst (λ (d : ℕ). 31 < d) (c .before .before .distance-to .ensures) (c .before .if1 .taken))))
+    let d = c .before .before in
+    let m = start d .args .self in
+    c .stay .ensures ∙ ap (stepBy m) (sym (old (bare m) _ _ (subst (λ (x : ℕ). 31 < x) (d .distance-to .ensures) (c .before .if1 .taken))))
 
 returns-2 : tie.Need-returns-2
 returns-2 c =
+    let l = c .before .before in
+    let d = measured l in
+    let m = start d .args .self in
     c .stay2 .ensures
-    ∙ ap (stepBy (c .before .before .before .before .before .before .args .self)) (sym (duplicate (bare (c .before .before .before .before .before .before .args .self)) _ _ (subst (λ (d : ℕ). d ≤ 31) (c .before .before .before .before .distance-to .ensures) (c .before .before .before .if1 .left)) (sym (c .before .before .member .ensures) ∙ c .before .if2 .taken)))
+    ∙ ap (stepBy m) (sym (duplicate (bare m) _ _ (subst (λ (x : ℕ). x ≤ 31) (d .distance-to .ensures) (l .before .if1 .left)) (sym (l .member .ensures) ∙ c .before .if2 .taken)))
 
 returns-3 : tie.Need-returns-3
 returns-3 c =
+    let l = looked (c .before) in
+    let d = measured l in
+    let m = start d .args .self in
     c .pass .ensures
-    ∙ passed-run (c .before .before .before .before .before .before .before .before .before .args .self) _ (the-run (c .before))
-    ∙ ap (stepBy (c .before .before .before .before .before .before .before .before .before .args .self)) (sym (expected (bare (c .before .before .before .before .before .before .before .before .before .args .self)) _ _ (sym (c .before .before .before .before .before .before .before .distance-to .ensures) ∙ c .before .before .before .if3 .taken) (sym (c .before .before .before .before .before .member .ensures) ∙ c .before .before .before .before .if2 .left)))
+    ∙ passed-run m _ (the-run (c .before))
+    ∙ ap (stepBy m) (sym (expected (bare m) _ _ (sym (d .distance-to .ensures) ∙ c .before .before .before .if3 .taken) (sym (l .member .ensures) ∙ c .before .before .before .before .if2 .left)))
 
 returns-4 : tie.Need-returns-4
 returns-4 c =
+    let l = c .before .before .before in
+    let d = measured l in
+    let m = start d .args .self in
     c .hold .ensures
-    ∙ ap (stepBy (c .before .before .before .before .before .before .before .args .self)) (sym (held-on (bare (c .before .before .before .before .before .before .before .args .self)) _ _ (subst (λ (d : ℕ). d ≤ 31) (c .before .before .before .before .before .distance-to .ensures) (c .before .before .before .before .if1 .left)) (sym (c .before .before .before .member .ensures) ∙ c .before .before .if2 .left) (λ z. c .before .if3 .left (c .before .before .before .before .before .distance-to .ensures ∙ z))))
+    ∙ ap (stepBy m) (sym (held-on (bare m) _ _ (subst (λ (x : ℕ). x ≤ 31) (d .distance-to .ensures) (l .before .if1 .left)) (sym (l .member .ensures) ∙ c .before .before .if2 .left) (λ z. c .before .if3 .left (d .distance-to .ensures ∙ z))))
 
 pub take-arrival-spec : {M : Type 1} → statement M
 take-arrival-spec =

@@ -1,4 +1,5 @@
--- `resequencer::Resequencer::clock_end` meets its contract: the step that the numbers take tells the whole answer.
+-- `resequencer::Resequencer::clock_end` meets its contract: the step of the numbers determines the
+-- whole answer.
 -- Assumes nothing.
 use borrow.Author.Needs.{needs}
 use Rattle.resequencer.proofs.Steps.{end-asks, end-told}

@@ -3,7 +3,7 @@
 use mathlib.Core.Path.{ap, _∙_}
 use Prim.Native.Nat.{ℕ}
 use borrow.Author.Needs.{needs}
-use Rattle.interrogator.specs.Choosing.{chooseOf}
+use Rattle.route_choice.specs.Choosing.{chooseOf}
 use Rattle.route.proofs.Table.choose_for.Statement.{statement}
 use Rattle.route.proofs.Table.choose_for.Tie as tie
 

@@ -1,4 +1,4 @@
--- `sequence::LinkNumber::next` meets its contract: a remainder of a remainder's successor is that of the successor.
+-- `sequence::LinkNumber::next` meets its contract: (a % m + 1) % m is (a + 1) % m.
 -- Assumes nothing.
 use mathlib.Core.Path.{ap}
 use native.Mathlib.Nat.{mod-add-mod}

@@ -1,4 +1,5 @@
--- `sequence::PacketNumber::distance_to` meets its contract, by the law of distance at the modulus 16.
+-- `sequence::PacketNumber::distance_to` meets its contract, by the law of distance at the modulus
+-- 16.
 -- Assumes nothing.
 use mathlib.Core.Path.{refl}
 use lib.Dec.{lit<}

@@ -1,4 +1,4 @@
--- `wordset::set16::count` meets its contract, by the law of the count of ones at 16 places.
+-- `wordset::set16::count` meets its contract, by the law of the count of ones at the width 16.
 -- Assumes nothing.
 use native.Mathlib.Omega.{arith}
 use lib.Count.{ones-le}

@@ -1,4 +1,4 @@
--- `wordset::set16::difference` meets its contract, by the law `and-difference` at 16 places.
+-- `wordset::set16::difference` meets its contract, by the law `and-difference` at the width 16.
 -- Assumes nothing.
 use Rattle.wordset.proofs.Words.{and-difference}
 use Rattle.wordset.proofs.set16.difference.Statement.{statement}

@@ -1,4 +1,4 @@
--- `wordset::set16::lowest` meets its contract, by the law of trailing zeros at 16 places.
+-- `wordset::set16::lowest` meets its contract, by the law of trailing zeros at the width 16.
 -- Assumes nothing.
 use native.Mathlib.Omega.{arith}
 use lib.Count.{leading-le, trailing-le}

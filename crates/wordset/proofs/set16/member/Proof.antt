@@ -1,4 +1,4 @@
--- `wordset::set16::member` meets its contract, by the law of a place tested by a shift at 16 places.
+-- `wordset::set16::member` meets its contract, by the law `shifted-member` at the width 16.
 -- Assumes nothing.
 use mathlib.Core.Path.{sym}
 use borrow.Author.Needs.{needs}

@@ -1,4 +1,4 @@
--- `wordset::set16::union` meets its contract, by the law `or-union` at 16 places.
+-- `wordset::set16::union` meets its contract, by the law `or-union` at the width 16.
 -- Assumes nothing.
 use Rattle.wordset.proofs.Words.{or-union}
 use Rattle.wordset.proofs.set16.union.Statement.{statement}

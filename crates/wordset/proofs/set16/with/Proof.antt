@@ -1,4 +1,4 @@
--- `wordset::set16::with` meets its contract, by the law `or-with` at 16 places.
+-- `wordset::set16::with` meets its contract, by the law `or-with` at the width 16.
 -- Assumes nothing.
 use borrow.Author.Needs.{needs}
 use Rattle.wordset.proofs.Words.{or-with, with-past}

@@ -1,4 +1,4 @@
--- `wordset::set64::count` meets its contract, by the law of the count of ones at 64 places.
+-- `wordset::set64::count` meets its contract, by the law of the count of ones at the width 64.
 -- Assumes nothing.
 use native.Mathlib.Omega.{arith}
 use lib.Count.{ones-le}

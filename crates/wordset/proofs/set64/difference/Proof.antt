@@ -1,4 +1,4 @@
--- `wordset::set64::difference` meets its contract, by the law `and-difference` at 64 places.
+-- `wordset::set64::difference` meets its contract, by the law `and-difference` at the width 64.
 -- Assumes nothing.
 use Rattle.wordset.proofs.Words.{and-difference}
 use Rattle.wordset.proofs.set64.difference.Statement.{statement}

@@ -1,4 +1,4 @@
--- `wordset::set64::member` meets its contract, by the law of a place tested by a shift at 64 places.
+-- `wordset::set64::member` meets its contract, by the law `shifted-member` at the width 64.
 -- Assumes nothing.
 use mathlib.Core.Path.{sym}
 use borrow.Author.Needs.{needs}

@@ -1,4 +1,4 @@
--- `wordset::set64::rotate` meets its contract, by the law `shifts-rotate` at 64 places.
+-- `wordset::set64::rotate` meets its contract, by the law `shifts-rotate` at the width 64.
 -- Assumes nothing.
 use borrow.Author.Needs.{needs}
 use lib.Dec.{lit<}

@@ -1,4 +1,4 @@
--- `wordset::set64::run` meets its contract, by the law `zeros-run` at 64 places.
+-- `wordset::set64::run` meets its contract, by the law `zeros-run` at the width 64.
 -- Assumes nothing.
 use mathlib.Core.Path.{ap, _∙_}
 use Prim.Native.Nat.{ℕ, _-_, _^_}

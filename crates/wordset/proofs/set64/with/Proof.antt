@@ -1,4 +1,4 @@
--- `wordset::set64::with` meets its contract, by the law `or-with` at 64 places.
+-- `wordset::set64::with` meets its contract, by the law `or-with` at the width 64.
 -- Assumes nothing.
 use borrow.Author.Needs.{needs}
 use Rattle.wordset.proofs.Words.{or-with, with-past}

@@ -1,0 +1,32 @@
+-- `write_lengths` is safe and ends: each length has four bytes of the list.
+-- Assumes nothing.
+use mathlib.Core.Path.{_≡_}
+use Prim.Native.Nat.{_-_, _≤_}
+use lib.ListN.{length}
+use borrow.Author.Needs.{needs}
+use Rattle.call.proofs.calls.write_lengths.Statement.{statement}
+use Rattle.call.proofs.calls.write_lengths.Tie as tie
+
+abbrev Inv-loop : tie.InvT-loop
+Inv-loop lengths list₀ count i₀ list i = (i ≤ count) × (length list ≡ length list₀)
+
+abbrev μ-loop : tie.MeasureT-loop
+μ-loop lengths list₀ count i₀ list i = count - i
+
+pub write-lengths-spec : {M : Type 1} → statement M
+write-lengths-spec =
+    tie.close
+    (tie.spec
+    Inv-loop
+    μ-loop
+    (λ c κs. search needs)
+    (λ c. search needs)
+    (λ c. search needs)
+    (λ c. search needs)
+    (λ c. search needs)
+    (λ c κs. search needs)
+    (λ c. search needs)
+    (λ c. search needs)
+    (λ c. search needs)
+    (λ c. search needs)
+    (λ c. search needs))

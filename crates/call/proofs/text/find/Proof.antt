@@ -1,0 +1,26 @@
+-- `find` meets its contract: the search goes on within the range.
+-- Assumes nothing.
+use Prim.Native.Nat.{_-_, _≤_}
+use borrow.Author.Needs.{needs}
+use Rattle.call.proofs.text.find.Statement.{statement}
+use Rattle.call.proofs.text.find.Tie as tie
+
+abbrev Inv-loop : tie.InvT-loop
+Inv-loop s from to byte i₀ i = (from ≤ i) × (i ≤ to)
+
+abbrev μ-loop : tie.MeasureT-loop
+μ-loop s from to byte i₀ i = to - i
+
+pub find-spec : {M : Type 1} → statement M
+find-spec =
+    tie.close
+    (tie.spec
+    Inv-loop
+    μ-loop
+    (λ c. search needs)
+    (λ c. search needs)
+    (λ c. search needs)
+    (λ c. search needs)
+    (λ c. search needs)
+    (λ c. search needs)
+    (λ c. search needs))

@@ -1,3 +1,0 @@
--- The laws of writing and reading frames.
-pub mod Writing
-pub mod Reading

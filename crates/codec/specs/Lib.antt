@@ -1,4 +1,0 @@
--- What the contracts of `codec` cite.
-pub mod Frames
-pub mod Writing
-pub mod Reading

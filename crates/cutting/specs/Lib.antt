@@ -1,3 +1,0 @@
--- What the contracts of `cutting` cite.
-pub mod Cutting
-pub mod Parts

@@ -1,3 +1,0 @@
--- What the contracts of `form` cite.
-pub mod Forms
-pub mod Segments

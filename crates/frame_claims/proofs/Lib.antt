@@ -1,0 +1,3 @@
+-- What is proved of frames written and read.
+pub mod ReadBack
+pub mod Refusing

@@ -1,0 +1,3 @@
+// The claims about frames: a frame that is written is read back to the same fields, a frame that is
+// read is written back to the same bytes, and a refused write changes nothing. specs/ states them,
+// proofs/ proves them. There is no code here.

@@ -1,0 +1,42 @@
+-- `frame_codec::put_frame` meets its contract: the padding is cleared first, then the header and
+-- the user data are written, each just after the part before it.
+-- Assumes nothing.
+use mathlib.Core.Path.{_≡_, ap, _∙_}
+use mathlib.Core.List.{List}
+use Prim.Native.Nat.{ℕ, _+_, _-_}
+use native.Mathlib.Omega.{arith}
+use lib.ListN.{length}
+use lib.Seq.{paste}
+use borrow.Author.Needs.{needs}
+use Rattle.frame_fields.specs.Rows.{bytesOf}
+use Rattle.frame_fields.proofs.Rows.{bytes-length}
+use Rattle.lists.proofs.Copying.{copied-part}
+use Rattle.frame_codec.proofs.Writing.{three-parts}
+use Rattle.frame_codec.proofs.put_frame.Statement.{statement}
+use Rattle.frame_codec.proofs.put_frame.Tie as tie
+
+-- the place after `put_number`, seen from the end
+abbrev numbered : tie.After-slice-known4 → tie.After-put-number
+numbered c = c .before .before .before .before .before .before
+
+-- the place after `clear_padding`, seen from there
+abbrev cleared : tie.After-put-number → tie.After-clear-padding
+cleared c = c .before .before .before .before
+
+returns : tie.Need-returns
+returns c =
+    let written = numbered c in
+    let a = cleared written .before .before .before .before .args in
+    let d : List ℕ = a .user .now in
+    let h = bytesOf (a .size) (a .number) in
+    let few : a .size + length d - a .size ≡ length d = omega arith in
+    copied-part (written .put-number .last .0) d _ (a .size) (a .size + length d - a .size) few (search needs) (c .before .before .copy-in .ensures)
+    ∙ ap (λ (l : List ℕ). paste l (a .size) d (length d)) (written .put-number .ensures)
+    ∙ three-parts h d (a .out .now) _ (a .size) (a .pad) (bytes-length (a .size) (a .number)) (cleared written .clear-padding .ensures)
+
+pub put-frame-spec : {M : Type 1} → statement M
+put-frame-spec =
+    tie.close
+    (tie.spec
+    (λ c. search needs) (λ c κs. search needs) (λ c κs. search needs) (λ c. search needs) (λ c. search needs) (λ c. search needs) (λ c. search needs) (λ c κs. search needs) (λ c. search needs)
+    returns)

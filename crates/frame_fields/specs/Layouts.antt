@@ -1,0 +1,116 @@
+-- Headers: a packet's header is a list of fields; how a header is written, and how its values are
+-- read (document 01, "Forms and frames"). Crate `frame` defines the fields of each packet (its
+-- specs/Packets.antt).
+-- Assumes nothing.
+use mathlib.Core.Bool.{Bool, true, false, _&&_}
+use mathlib.Core.List.{List, [], _∷_, _++_}
+use Prim.Native.Nat.{ℕ, _-_, _/_, _^_}
+use lib.Dec.{ltb, eqb}
+use Rattle.frame_fields.specs.Rows.{total, pack, unpack, bytesOf, numberIn}
+
+-- A field: its width in bits, and what kind of value it has.
+pub data Field : Type 0 where
+  -- the width, and the only right value: a fixed field, or fill, which is 0
+  fixed : ℕ → ℕ → Field
+  -- the width: the packet gives the value
+  free : ℕ → Field
+  -- the width: the value is LV, the number of bytes used in the last segment
+  lv : ℕ → Field
+
+-- A packet's header: the leading fixed fields, whose bits identify the kind of packet; the other
+-- fields; and the number of bytes of all of them.
+pub record Layout : Type 0 where
+  pub kind : List Field
+  pub rest : List Field
+  pub size : ℕ
+
+-- all fields, in their order
+abbrev pub fields : Layout → List Field
+fields l = l .kind ++ l .rest
+
+-- their widths
+abbrev pub widths : List Field → List ℕ
+widths [] = []
+widths (fixed w v ∷ fs) = w ∷ widths fs
+widths (free w ∷ fs) = w ∷ widths fs
+widths (lv w ∷ fs) = w ∷ widths fs
+
+-- there is an LV field among them
+abbrev pub hasLv : List Field → Bool
+hasLv [] = false
+hasLv (fixed w v ∷ fs) = hasLv fs
+hasLv (free w ∷ fs) = hasLv fs
+hasLv (lv w ∷ fs) = true
+
+-- ---- written
+
+-- the values of all fields, if LV is u and the free fields have the values vs in their order; a
+-- missing value is 0
+abbrev pub allValues : List Field → ℕ → List ℕ → List ℕ
+allValues [] u vs = []
+allValues (fixed w v ∷ fs) u vs = v ∷ allValues fs u vs
+allValues (free w ∷ fs) u [] = 0 ∷ allValues fs u []
+allValues (free w ∷ fs) u (v ∷ vs) = v ∷ allValues fs u vs
+allValues (lv w ∷ fs) u vs = u ∷ allValues fs u vs
+
+-- there are as many values as free fields, and each fits the width of its field
+abbrev pub within : List Field → List ℕ → Bool
+within [] [] = true
+within [] (v ∷ vs) = false
+within (fixed w x ∷ fs) vs = within fs vs
+within (free w ∷ fs) [] = false
+within (free w ∷ fs) (v ∷ vs) = ltb v (2 ^ w) && within fs vs
+within (lv w ∷ fs) vs = within fs vs
+
+-- the header as one number, if LV is u and the free fields have the values vs
+abbrev pub headerNumber : Layout → ℕ → List ℕ → ℕ
+headerNumber l u vs = pack (widths (fields l)) (allValues (fields l) u vs)
+
+-- the bytes of the header, the highest first
+abbrev pub header : Layout → ℕ → List ℕ → List ℕ
+header l u vs = bytesOf (l .size) (headerNumber l u vs)
+
+-- ---- read
+
+-- the values of all fields, read from a frame's first bytes
+abbrev pub valuesIn : Layout → List ℕ → List ℕ
+valuesIn l frame = unpack (widths (fields l)) (numberIn (l .size) frame)
+
+-- from the values xs of all fields, those of the free fields
+abbrev pub freeValues : List Field → List ℕ → List ℕ
+freeValues [] xs = []
+freeValues (f ∷ fs) [] = []
+freeValues (fixed w v ∷ fs) (x ∷ xs) = freeValues fs xs
+freeValues (free w ∷ fs) (x ∷ xs) = x ∷ freeValues fs xs
+freeValues (lv w ∷ fs) (x ∷ xs) = freeValues fs xs
+
+-- from the values xs of all fields, LV; 0 if the header has none
+abbrev pub lvIn : List Field → List ℕ → ℕ
+lvIn [] xs = 0
+lvIn (f ∷ fs) [] = 0
+lvIn (fixed w v ∷ fs) (x ∷ xs) = lvIn fs xs
+lvIn (free w ∷ fs) (x ∷ xs) = lvIn fs xs
+lvIn (lv w ∷ fs) (x ∷ xs) = x
+
+-- there are as many values as fields, every fixed field, fill included, has its right value, and LV
+-- is u
+abbrev pub fixedRight : List Field → ℕ → List ℕ → Bool
+fixedRight [] u [] = true
+fixedRight [] u (x ∷ xs) = false
+fixedRight (f ∷ fs) u [] = false
+fixedRight (fixed w v ∷ fs) u (x ∷ xs) = eqb x v && fixedRight fs u xs
+fixedRight (free w ∷ fs) u (x ∷ xs) = fixedRight fs u xs
+fixedRight (lv w ∷ fs) u (x ∷ xs) = eqb x u && fixedRight fs u xs
+
+-- the number of bits that identify the kind of packet
+abbrev pub tagWidth : Layout → ℕ
+tagWidth l = total (widths (l .kind))
+
+-- these bits, as a number
+abbrev pub tag : Layout → ℕ
+tag l = pack (widths (l .kind)) (allValues (l .kind) 0 [])
+
+-- a frame's first byte, `first`, begins with the bits that identify the kind (8 of them at most).
+-- If this is false for every kind: "First bits of no known packet are refusal 3."
+abbrev pub opensWith : Layout → ℕ → Bool
+opensWith l first = eqb (first / 2 ^ (8 - tagWidth l)) (tag l)

@@ -1,0 +1,3 @@
+-- The definitions that the contracts of `frame_form` cite.
+pub mod Forms
+pub mod Segments

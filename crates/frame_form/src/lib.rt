@@ -1,0 +1,107 @@
+// The forms of a frame, and how a packet's bytes fill their segments (document 01, "Forms and
+// frames").
+ghost use mathlib.Core.Path.{_≡_};
+ghost use Prim.Native.Nat.{_+_, _/_, _≤_};
+ghost use Rattle.frame_form.specs.Forms.{segOf, mostOf, formValid, formAt};
+ghost use Rattle.frame_form.specs.Segments.{padding, lastUsed, wholeSegments};
+
+// The form of a frame: it gives the size of a segment and the size of the largest packet.
+pub enum Form {
+    ShortUplink,
+    LongUplink,
+    // With the most segments that a frame may have: 1 to 16 in a valid form.
+    LongDownlink(u8),
+}
+
+impl Form {
+    // The form with the number `n`, for `frame_bytes` and `message_bytes`: 0 is the short uplink, 1
+    // the long uplink, 2 + k the long downlink with k segments. The form is not valid if `n` is 2
+    // or over 18.
+    pub fn from_number(n: u8) -> Form
+        ensures { λ r. ⌜ r ≡ formAt n ⌝ }
+    {
+        if n == 0 {
+            Form::ShortUplink
+        } else if n == 1 {
+            Form::LongUplink
+        } else {
+            Form::LongDownlink(n - 2)
+        }
+    }
+
+    // Whether the form is valid: a long downlink has 1 to 16 segments. Writing, reading, cutting
+    // and joining refuse an invalid form with 1.
+    pub fn is_valid(self) -> bool
+        ensures { λ r. ⌜ r ≡ formValid self ⌝ }
+    {
+        match self {
+            Form::ShortUplink => true,
+            Form::LongUplink => true,
+            Form::LongDownlink(n) => 1 <= n && n <= 16,
+        }
+    }
+
+    // The size of a segment in bytes.
+    pub fn segment(self) -> usize
+        ensures { λ r. ⌜ r ≡ segOf self ⌝ }
+        ensures some { λ r. ⌜ (7 ≤ r) × (r ≤ 10) ⌝ }
+    {
+        match self {
+            Form::ShortUplink => 7,
+            Form::LongUplink => 10,
+            Form::LongDownlink(_n) => 10,
+        }
+    }
+
+    // The size of the largest packet in bytes.
+    pub fn most(self) -> usize
+        ensures { λ r. ⌜ r ≡ mostOf self ⌝ }
+    {
+        match self {
+            Form::ShortUplink => 28,
+            Form::LongUplink => 152,
+            Form::LongDownlink(n) => 10 * n as usize,
+        }
+    }
+
+    // 65,536 divided by the segment size, rounded up.
+    fn reciprocal(self) -> usize
+        ensures { λ r. ⌜ r ≡ 65535 / segOf self + 1 ⌝ }
+    {
+        match self {
+            Form::ShortUplink => 9363,
+            Form::LongUplink => 6554,
+            Form::LongDownlink(_n) => 6554,
+        }
+    }
+
+    // The number of zero bytes that fill `n` bytes up to whole segments; for `frame_codec` and
+    // `message`. To save time it does not divide by the segment size: both sizes divide 70, so `n %
+    // 70` bytes need the same padding, and a number below 80 is divided by multiplying with the
+    // reciprocal. The steps are the same for every form, so a compiler can merge two calls with the
+    // same arguments.
+    pub fn padding(self, n: usize) -> usize
+        ensures { λ r. ⌜ r ≡ padding (segOf self) n ⌝ }
+        ensures few { λ r. ⌜ r ≤ 9 ⌝ }
+    {
+        let segment = self.segment();
+        let past = n % 70;
+        let segments = (past + segment - 1) * self.reciprocal() / 65536;
+        segments * segment - past
+    }
+
+    // LV of a packet of `n` bytes: the number of bytes used in its last segment; for `frame`.
+    pub fn last_used(self, n: usize) -> usize
+        ensures { λ r. ⌜ r ≡ lastUsed (segOf self) n ⌝ }
+        ensures few { λ r. ⌜ (1 ≤ r) × (r ≤ 10) ⌝ }
+    {
+        self.segment() - self.padding(n)
+    }
+
+    // Whether `len` bytes are a whole number of segments, at least one; for `frame_codec`.
+    pub fn is_whole(self, len: usize) -> bool
+        ensures { λ r. ⌜ r ≡ wholeSegments (segOf self) len ⌝ }
+    {
+        1 <= len && self.padding(len) == 0
+    }
+}

@@ -1,3 +1,0 @@
--- What the contracts of `joining` cite.
-pub mod Joining
-pub mod Parts

@@ -1,0 +1,11 @@
+-- The laws of cutting.
+pub mod Sizes
+pub mod Written
+pub mod Steps
+pub mod Passed
+-- The laws of joining.
+pub mod Places
+pub mod Judging
+pub mod Users
+pub mod Copying
+pub mod Answers

@@ -1,0 +1,2 @@
+-- The proof of document 01's values.
+pub mod Values

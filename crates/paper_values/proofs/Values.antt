@@ -1,0 +1,44 @@
+-- Every row of the table holds: both sides compute to the same value.
+-- Assumes nothing.
+use mathlib.Core.Path.{refl}
+use Rattle.lists.specs.Lists.{listFrom}
+use Rattle.sequence.specs.Modular.{distance}
+use Rattle.wordset.specs.Sets.{bit, member, setOf, first, every}
+use Rattle.window.specs.Sending.{senderInOrder, sendVerdict, sendOf}
+use Rattle.resequencer.specs.State.{heldInWindow, clocksOnHeld, clocksApart, hsnrFurthest, meetsClock, ticketsOfHeld, inOrder}
+use Rattle.resequencer.specs.Events.{plain, places, handOn, handed, remaining, advance, heldTickets, startsClock, hold, runAfterNesn, handOnRun, takeArrival, arriveVerdict, arriveOf, passedByClock, takeClockEnd, clockEndVerdict, clockEndOf}
+use Rattle.frame_form.specs.Segments.{padding, lastUsed, wholeSegments}
+use Rattle.frame_codec.specs.Frames.{framed}
+use Rattle.frame_codec.specs.Writing.{writeVerdict}
+use Rattle.frame_codec.specs.Reading.{shapeVerdict, contentVerdict, readVerdict, userLengthOf}
+use Rattle.frame.specs.Writing.{fits, frameOf, writeOf, writeOutput}
+use Rattle.frame.specs.Reading.{seenIn, readAs, readOf}
+use Rattle.route.specs.Entries.{parse, entriesIn, isIn, adds, deletes}
+use Rattle.route.specs.Updating.{tableAfter, those, lostBetween, updateOf}
+use Rattle.paper_values.specs.Values.{Values}
+
+pub values : Values
+unfolding listFrom distance bit member setOf first every senderInOrder sendVerdict sendOf heldInWindow clocksOnHeld clocksApart hsnrFurthest meetsClock ticketsOfHeld inOrder plain places handOn handed remaining advance heldTickets startsClock hold runAfterNesn handOnRun takeArrival arriveVerdict arriveOf passedByClock takeClockEnd clockEndVerdict clockEndOf padding lastUsed wholeSegments framed writeVerdict shapeVerdict contentVerdict readVerdict userLengthOf fits frameOf writeOf writeOutput seenIn readAs readOf parse entriesIn isIn adds deletes tableAfter those lostBetween updateOf
+values = record {
+  p1 = refl;
+  p2 = refl;
+  p2-end = refl;
+  p3 = refl;
+  p4 = refl;
+  p5 = refl;
+  p6 = refl;
+  p6-state = refl;
+  p7 = refl;
+  p8 = refl;
+  p8-nesn = refl;
+  p8-clocks = refl;
+  p9 = refl;
+  p9-frame = refl;
+  p9-read = refl;
+  p10 = refl;
+  p10-read = refl;
+  p11 = refl;
+  p11-read = refl;
+  p12 = refl;
+  p12-turned = refl;
+}

@@ -1,2 +1,0 @@
--- What is proved of the receiving end.
-pub mod Order

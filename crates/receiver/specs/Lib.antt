@@ -1,2 +1,0 @@
--- What the contracts of `receiver` cite.
-pub mod Receiving

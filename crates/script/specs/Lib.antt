@@ -1,6 +1,0 @@
--- What the contracts of `script` cite, and the claim about the whole report.
-pub mod Text
-pub mod Lines
-pub mod Feeding
-pub mod Whole
-pub mod Writing

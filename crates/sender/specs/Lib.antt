@@ -1,2 +1,0 @@
--- What the contracts of `sender` cite.
-pub mod Sending

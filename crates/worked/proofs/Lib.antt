@@ -1,2 +1,0 @@
--- Document 01's values, computed.
-pub mod Values
