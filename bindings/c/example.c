@@ -10,7 +10,7 @@
 static uint8_t message[MESSAGE], wire[FRAMES * 160], ordered[FRAMES * 160], joined[MESSAGE];
 static size_t lengths[FRAMES], ordered_lengths[FRAMES];
 
-/* Where a frame stands among frames of these lengths. */
+/* The index of a frame among frames of these lengths. */
 static size_t start_of(const size_t *all, size_t frame)
 {
     size_t at = 0;

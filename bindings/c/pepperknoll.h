@@ -1,18 +1,25 @@
-/* Pepperknoll: the packet layer of an air-ground data link (the Mode S subnetwork of ICAO Annex 10 Volume III), proved.
+/* Pepperknoll: the packet layer of an air-ground data link (the Mode S subnetwork of ICAO Annex 10
+ * Volume III), proved.
  *
- * Link with libpepperknoll.a. No call allocates, blocks, keeps anything between calls or reads a clock; any call may be made from any thread as long
- * as no other call works on the same memory. Every call ends and takes any arguments: what cannot be done is refused with a number.
+ * Link with libpepperknoll.a. No call allocates, blocks, keeps anything between calls or reads a
+ * clock; any call may be made from any thread as long as no other call works on the same memory.
+ * Every call ends and accepts any arguments: what cannot be done is refused with a number.
  *
- * Answers. A call answers one number. Its low 8 bits are the refusal number, 0 for done (PK_NUMBER below takes them out); the bits above hold the values
- * that the call's comment names, all 0 after a refusal but for the two clearing codes of a choice.
+ * Answers. A call returns one number. Its low 8 bits are the refusal number, 0 for done (PK_NUMBER
+ * below); the bits above hold the values that the call's comment names. After a refusal they are 0,
+ * except for the two clearing codes of a choice. The four calls on sequence numbers and the three
+ * `.._in_order` calls are never refused: their answer is the value itself.
  *
- * Lent memory. A list is lent as a pointer and a length; the pointer must be good for that many elements, and two lists of one call must not overlap
- * where the call writes to one of them. The pointer of a list of length 0 is not used, but it must not be NULL and must be aligned. A refused call
- * leaves every lent byte as it was.
+ * Lent memory. A list is lent as a pointer and a length. The pointer must be good for that many
+ * elements, and two lists of one call must not overlap where the call writes to one of them. The
+ * pointer of a list of length 0 is not used, but it must not be NULL and must be aligned. A refused
+ * call leaves every lent byte as it was.
  *
- * States. A state is a fixed number of bytes that the caller keeps, and may copy, store and send. Its layout is given below: words stand with the lowest
- * byte first, at any alignment. Bytes that are no such state, or that are not in good order, are refused with PK_NOT_IN_ORDER, and so is a
- * list that has to have a fixed length (a state, the places for tickets, a packet, the report of a route list) and has another.
+ * States. A state is a fixed number of bytes that the caller keeps, and may copy, store and send.
+ * Its layout is given below: words are stored with the lowest byte first, at any alignment. Bytes
+ * that are not such a state, or are not in good order, are refused with PK_NOT_IN_ORDER (14), by
+ * every call that reads a state. So is a list that must have a fixed length (a state, the places
+ * for tickets, a packet, the report of a route list) and has another.
  */
 #ifndef PEPPERKNOLL_H
 #define PEPPERKNOLL_H
@@ -28,8 +35,10 @@ extern "C" {
 
 #define PK_DONE 0
 #define PK_OUT_OF_RANGE 1          /* an argument exceeds its field */
-#define PK_MALFORMED 2             /* a frame is empty or no whole number of segments; lengths don't sum; no frames; M = 1 on the last frame */
-#define PK_FORMAT_ERROR 3          /* a fixed field, fill, LV or padding byte is wrong; M = 0 before the last frame */
+#define PK_MALFORMED 2             /* frame empty or not of whole segments; lengths don't sum;
+                                      no frames; M = 1 on the last frame */
+#define PK_FORMAT_ERROR 3          /* fixed field, fill, LV or padding byte wrong; M = 0 before the
+                                      last frame */
 #define PK_MESSAGE_TOO_LONG 4      /* message over 4,096 bytes */
 #define PK_OUTPUT_TOO_SHORT 5      /* lent output shorter than needed */
 #define PK_ROUTE_LIST_MALFORMED 6  /* route list over 255 bytes, or its last entry is cut */
@@ -38,7 +47,7 @@ extern "C" {
 #define PK_WINDOW_CLOSED 9         /* send window closed */
 #define PK_OUTSIDE_WINDOW 10       /* received PS outside the window */
 #define PK_OUT_OF_SEQUENCE 11      /* received PS out of sequence */
-#define PK_FIRST_NOT_ZERO 12       /* received PS is the first one and not 0 */
+#define PK_FIRST_NOT_ZERO 12       /* received PS not 0, and none accepted yet */
 #define PK_PACKET_TOO_LONG 13      /* packet over the form's largest size */
 #define PK_NOT_IN_ORDER 14         /* the state is not in good order */
 #define PK_ALL_FAILED 15           /* every interrogator of that address has failed */
@@ -47,9 +56,10 @@ extern "C" {
 
 #define PK_NUMBER(answer) ((uint8_t)((answer) & 0xFF))
 
-/* ---- sequence numbers. SN counts modulo 64; PS and PR count modulo 16. A number past its field counts as its remainder. */
+/* ---- sequence numbers. SN counts modulo 64; PS and PR count modulo 16. A number that does not fit
+ * its field is taken as its remainder. */
 
-uint8_t pk_link_distance(uint8_t from, uint8_t to);   /* how far `to` is ahead of `from`, modulo 64 */
+uint8_t pk_link_distance(uint8_t from, uint8_t to);   /* distance from `from` to `to`, modulo 64 */
 uint8_t pk_link_next(uint8_t number);                 /* the number after, modulo 64 */
 uint8_t pk_packet_distance(uint8_t from, uint8_t to); /* the same, modulo 16 */
 uint8_t pk_packet_next(uint8_t number);
@@ -58,30 +68,33 @@ uint8_t pk_packet_next(uint8_t number);
 
 #define PK_SENDER_BYTES 2
 
-/* Writes a state that has sent nothing. */
+/* Writes a fresh state: nothing sent. Refused with 14 (a wrong length). */
 uint32_t pk_sender_fresh(uint8_t *state, size_t state_len);
-/* 1 where the bytes are a state in good order, else 0. This answer is no refusal number. */
+/* 1 if the bytes are a state in good order, else 0. */
 uint32_t pk_sender_in_order(const uint8_t *state, size_t state_len);
-/* Asks for a PS to send the next packet with: bits 8 to 15. Refused with 14, 9. */
+/* Asks for the PS of the next packet to send: bits 8 to 15. Refused with 14, 9. */
 uint32_t pk_sender_send(uint8_t *state, size_t state_len);
-/* Takes a PR that came in. Refused with 14, 1, 16. */
+/* Takes a received PR. Refused with 14, 1, 16. */
 uint32_t pk_sender_acknowledge(uint8_t *state, size_t state_len, uint8_t pr);
 
-/* ---- the flow window, receiving end. State: [0] expected PS, [1] 1 while no packet has come, else 0, [2] count of packets not yet told. */
+/* ---- the flow window, receiving end. State: [0] expected PS, [1] 1 until a packet is accepted,
+ * then 0, [2] count of packets not yet told. Three zero bytes are in good order but not fresh. */
 
 #define PK_RECEIVER_BYTES 3
 
-/* Writes a state to which nothing has come. */
+/* Writes a fresh state: nothing accepted. Refused with 14 (a wrong length). */
 uint32_t pk_receiver_fresh(uint8_t *state, size_t state_len);
-/* 1 where the bytes are a state in good order, else 0. This answer is no refusal number. */
+/* 1 if the bytes are a state in good order, else 0. */
 uint32_t pk_receiver_in_order(const uint8_t *state, size_t state_len);
-/* Takes the PS of a packet that came in. Bit 8 says that PR is due. Refused with 14, 1, then 12, 10 or 11. */
+/* Takes the PS of a received packet. Bit 8 says that PR is due. Refused with 14, 1, then 12, 10 or
+ * 11. */
 uint32_t pk_receiver_receive(uint8_t *state, size_t state_len, uint8_t ps);
-/* The PR to send now, bits 8 to 15; all packets taken are then told. Refused with 14. */
+/* The PR to send now, bits 8 to 15; the count of packets not yet told becomes 0. Refused with
+ * 14. */
 uint32_t pk_receiver_tell(uint8_t *state, size_t state_len);
 
-/* ---- the resequencer. State: [0] NESN, [1] HSNR, [2..9] held numbers as a word of 64 bits, [10..17] numbers whose clock runs, the same,
- * [18..145] the 64 tickets, two bytes each. */
+/* ---- the resequencer. State: [0] NESN, [1] HSNR, [2..9] the held numbers as a word of 64 bits,
+ * [10..17] the numbers whose clock runs, the same, [18..145] the 64 tickets, two bytes each. */
 
 #define PK_RESEQUENCER_BYTES 146
 #define PK_TICKETS 32
@@ -94,24 +107,29 @@ uint32_t pk_receiver_tell(uint8_t *state, size_t state_len);
 #define PK_OUTCOME(answer) ((uint8_t)((answer) >> 8 & 0xFF))
 #define PK_COUNT(answer) ((uint8_t)((answer) >> 16 & 0xFF))
 
-/* Writes a state to which nothing has come. */
+/* Writes a fresh state: NESN 0, nothing held. Refused with 14 (a wrong length). */
 uint32_t pk_resequencer_fresh(uint8_t *state, size_t state_len);
-/* 1 where the bytes are a state in good order, else 0. This answer is no refusal number. */
+/* 1 if the bytes are a state in good order, else 0. */
 uint32_t pk_resequencer_in_order(const uint8_t *state, size_t state_len);
-/* A packet arrives. Bits 8 to 15 say what became of it, bits 16 to 23 how many tickets it lets go; these stand in `tickets`, which has 32 places, in
- * order, and the other places become 0. Refused with 14, 1. */
-uint32_t pk_resequencer_arrive(uint8_t *state, size_t state_len, uint16_t *tickets, size_t tickets_len, uint8_t sn, uint16_t ticket);
-/* The clock of a number ends. Answers as an arrival does. Refused with 14, 1, 7. */
-uint32_t pk_resequencer_clock_end(uint8_t *state, size_t state_len, uint16_t *tickets, size_t tickets_len, uint8_t sn);
+/* A packet arrives. Writes the released tickets to `tickets`, which has 32 places, in order, and 0
+ * to its other places. Bits 8 to 15 are the outcome, bits 16 to 23 the number of tickets. Refused
+ * with 14, 1. */
+uint32_t pk_resequencer_arrive(uint8_t *state, size_t state_len, uint16_t *tickets,
+                               size_t tickets_len, uint8_t sn, uint16_t ticket);
+/* The clock of a number ends. Writes and answers as an arrival does. Refused with 14, 1, 7. */
+uint32_t pk_resequencer_clock_end(uint8_t *state, size_t state_len, uint16_t *tickets,
+                                  size_t tickets_len, uint8_t sn);
 
-/* ---- frames. A form is one number; a downlink form that is none, 0 or more than 16 segments, is refused with 1 by every call that takes a form. */
+/* ---- frames. A form is one number. Every call refuses an invalid form with 1: a downlink form has
+ * 1 to 16 segments, so that 2 and the numbers from 19 are invalid. */
 
 #define PK_SHORT_UPLINK 0
 #define PK_LONG_UPLINK 1
-#define PK_LONG_DOWNLINK(segments) ((uint8_t)((segments) >= 1 && (segments) <= 16 ? 2 + (segments) : 2))
+#define PK_LONG_DOWNLINK(segments) \
+    ((uint8_t)((segments) >= 1 && (segments) <= 16 ? 2 + (segments) : 2))
 
-/* A packet: [0] its kind, then a byte for each of its fields, in the order in which a frame has them; bytes that are not named are 0 where a packet is
- * read, and not looked at where it is written.
+/* A packet: [0] its kind, then a byte for each of its fields, in the frame's order. The other bytes
+ * are 0 when a packet is read, and ignored when it is written.
  *   DATA                [1] M  [2] SN [3] PS [4] PR [5] CH
  *   CLEAR REQUEST       [1] TC [2] SN [3] CH [4] AM [5] AG [6] CC [7] DC [8] S [9] F
  *   CLEAR CONFIRMATION  [1] TC [2] SN [3] CH [4] AM [5] AG */
@@ -122,27 +140,36 @@ uint32_t pk_resequencer_clock_end(uint8_t *state, size_t state_len, uint16_t *ti
 #define PK_CLEAR_REQUEST 1
 #define PK_CLEAR_CONFIRMATION 2
 
-/* Writes a packet and its user data as one frame to the front of `out`; bytes beyond the frame keep what they held. Bits 8 and up are the frame's length.
- * Refused with 14 (the packet has not 10 bytes), 1 (also for a kind that is none, a flag over 1, and user data with a CONFIRMATION), 13, 5. */
-uint64_t pk_frame_write(uint8_t form, const uint8_t *packet, size_t packet_len, const uint8_t *user, size_t user_len, uint8_t *out, size_t out_len);
-/* Reads a frame. Bits 8 to 15 say where its user data starts in the frame, bits 16 and up how long it is. Refused with 14 (no 10 bytes for
- * the packet), 1, 2, 3, 13. */
-uint64_t pk_frame_read(uint8_t form, const uint8_t *frame, size_t frame_len, uint8_t *packet, size_t packet_len);
+/* Writes a packet and its user data as one frame to the front of `out`; bytes beyond the frame keep
+ * what they held. Bits 8 and up are the frame's length. Refused with 14 (`packet` has not 10
+ * bytes), 1 (also for an unknown kind, a flag over 1, and user data with a CONFIRMATION), 13, 5. */
+uint64_t pk_frame_write(uint8_t form, const uint8_t *packet, size_t packet_len, const uint8_t *user,
+                        size_t user_len, uint8_t *out, size_t out_len);
+/* Reads a frame into `packet`. Bits 8 to 15 are the index of its user data in the frame, bits 16
+ * and up the length of the user data. Refused with 14 (`packet` has not 10 bytes), 1, 2, 3, 13. */
+uint64_t pk_frame_read(uint8_t form, const uint8_t *frame, size_t frame_len, uint8_t *packet,
+                       size_t packet_len);
 
 /* ---- messages of 0 to 4,096 bytes */
 
-#define PK_FRAMES(answer) ((size_t)((answer) >> 8 & 0xFFFFFF))
-#define PK_BYTES(answer) ((size_t)((answer) >> 32))
+#define PK_FRAMES(answer) ((size_t)((answer) >> 8 & 0xFFFFFF)) /* of cutting */
+#define PK_BYTES(answer) ((size_t)((answer) >> 32))            /* of cutting */
 
-/* Cuts a message into DATA frames, one after the other in `out`, their lengths in `lengths`; places beyond keep what they held. SN and PS count up from
- * those given, PR and CH are the same on all. Bits 8 to 31 are the number of frames, bits 32 and up their bytes. Refused with 1, 4, 5. */
-uint64_t pk_message_cut(uint8_t form, uint8_t sn, uint8_t ps, uint8_t pr, uint8_t ch, const uint8_t *message, size_t message_len, uint8_t *out,
-                        size_t out_len, size_t *lengths, size_t lengths_len);
-/* Joins DATA frames, which stand one after the other and have these lengths, to the message that they carry. Bits 8 and up are its length. Refused with
- * 1, 2, then frame by frame 2, 3, 13, 3, 17, 2, then 4, 5. */
-uint64_t pk_message_join(uint8_t form, const size_t *lengths, size_t lengths_len, const uint8_t *frames, size_t frames_len, uint8_t *out, size_t out_len);
+/* Cuts a message into DATA frames, written one after the other to `out`, their lengths to
+ * `lengths`; places beyond keep what they held. SN and PS count up from those given, PR and CH are
+ * the same on all. Bits 8 to 31 are the number of frames, bits 32 and up their bytes in all.
+ * Refused with 1, 4, 5. */
+uint64_t pk_message_cut(uint8_t form, uint8_t sn, uint8_t ps, uint8_t pr, uint8_t ch,
+                        const uint8_t *message, size_t message_len, uint8_t *out, size_t out_len,
+                        size_t *lengths, size_t lengths_len);
+/* Joins the DATA frames that `frames` holds one after the other, of these lengths, to the message
+ * that they carry. Bits 8 and up are its length. Refused with 1, 2, then frame by frame 2, 3, 13,
+ * 3, 17, 2, then 4, 5. */
+uint64_t pk_message_join(uint8_t form, const size_t *lengths, size_t lengths_len,
+                         const uint8_t *frames, size_t frames_len, uint8_t *out, size_t out_len);
 
-/* ---- interrogators. Table: for each of the 256 ground addresses two bytes, the set of its codes II as a word of 16 bits. */
+/* ---- interrogators. Table: for each of the 256 ground addresses two bytes, the set of its codes
+ * II as a word of 16 bits. */
 
 #define PK_TABLE_BYTES 512
 #define PK_LOST 256
@@ -152,19 +179,23 @@ uint64_t pk_message_join(uint8_t form, const size_t *lengths, size_t lengths_len
 #define PK_CLEARING_CAUSE(answer) ((uint8_t)((answer) >> 16 & 0xFF))
 #define PK_DIAGNOSTIC(answer) ((uint8_t)((answer) >> 24 & 0xFF))
 
-/* Writes a table in which no address has a code. */
+/* Writes a table in which no address has a code. Refused with 14 (a wrong length). */
 uint32_t pk_table_empty(uint8_t *table, size_t table_len);
 /* The set of an address's codes, bits 8 to 23. Refused with 14. */
 uint32_t pk_table_codes(const uint8_t *table, size_t table_len, uint8_t address);
 /* How many interrogators an address has, bits 8 to 15. Refused with 14. */
 uint32_t pk_table_count(const uint8_t *table, size_t table_len, uint8_t address);
-/* Chooses an interrogator for an address: not one of the failed codes, the last-used one if it can be, else the lowest. Bits 8 to 15. Refused with 14,
- * 1 (a last-used code over 15 that is not PK_NO_CODE), 8, 15. With 8 alone, bits 16 to 23 and 24 to 31 are the clearing cause and the
- * diagnostic code with which a call is cleared. */
-uint32_t pk_table_choose(const uint8_t *table, size_t table_len, uint8_t address, uint16_t last, uint16_t failed);
-/* Changes a table by a route list. `lost`, of 256 places, then has the addresses that had a code before and have none after, rising, and 0 in the other
- * places; bits 8 and up say how many they are. Refused with 14, 6. */
-uint32_t pk_table_update(uint8_t *table, size_t table_len, const uint8_t *list, size_t list_len, uint8_t *lost, size_t lost_len);
+/* Chooses an interrogator for an address among its codes that have not failed: the last-used one if
+ * it is among them, else the lowest. Bits 8 to 15. Refused with 14, 1 (a last-used code over 15
+ * other than PK_NO_CODE), 8, 15. With 8 alone, bits 16 to 23 and 24 to 31 are the clearing cause
+ * and the diagnostic code with which a call is cleared. */
+uint32_t pk_table_choose(const uint8_t *table, size_t table_len, uint8_t address, uint16_t last,
+                         uint16_t failed);
+/* Changes a table by a route list. Writes to `lost`, which has 256 places, the addresses that had a
+ * code before and have none after, rising, and 0 to its other places; bits 8 and up are their
+ * count. Refused with 14, 6. */
+uint32_t pk_table_update(uint8_t *table, size_t table_len, const uint8_t *list, size_t list_len,
+                         uint8_t *lost, size_t lost_len);
 /* The choice from a set of codes, answered as pk_table_choose does. Refused with 1, 8, 15. */
 uint32_t pk_choose(uint16_t codes, uint16_t last, uint16_t failed);
 

@@ -26,7 +26,7 @@ impl Form {
     }
 }
 
-/// A packet's fields. User data stands beside it, as a slice.
+/// A packet's fields. User data is given beside it, as a slice.
 #[derive(Clone, Copy, Debug, PartialEq, Eq, Hash)]
 pub enum Packet {
     /// DATA.
@@ -181,7 +181,7 @@ pub fn write_frame(
     values(answer).map(|length| length as usize)
 }
 
-/// Reads a frame: its packet, and its user data where it stands in the frame. Refused with 1, 2,
+/// Reads a frame: its packet, and its user data as a part of the frame. Refused with 1, 2,
 /// 3, 13.
 ///
 /// ```

@@ -81,7 +81,7 @@ pub fn cut(
     })
 }
 
-/// Joins DATA frames, which stand one after the other in `frames` and have these lengths, to the
+/// Joins the DATA frames that `frames` holds one after the other, of these lengths, to the
 /// message that they carry; answers its length. Bytes of `out` beyond keep what they held.
 /// Refused with 1, 2, then frame by frame 2, 3, 13, 3, 17, 2, then 4, 5.
 ///

@@ -3,7 +3,7 @@ use crate::raw;
 /// A link sequence number, SN: gives order on the link, counts modulo 64.
 ///
 /// It is a type apart from [`PacketNumber`], so that the two cannot be compared; and there is no
-/// less-than, since numbers that wrap have distances only. Any byte may stand in it: a call to
+/// less-than, since numbers that wrap have distances only. It may hold any byte: a call to
 /// which one over 63 is given as an argument refuses it.
 ///
 /// ```

@@ -29,7 +29,7 @@ impl Resequencer {
     /// whose clock runs, `[18..146]` the tickets; the lowest byte of each word first.
     pub const BYTES: usize = 146;
 
-    /// A state to which nothing has come.
+    /// A fresh state: NESN 0, nothing held.
     #[inline]
     pub fn fresh() -> Self {
         let mut bytes = [0; Self::BYTES];
@@ -70,7 +70,7 @@ impl Resequencer {
         unsafe { raw::pk_resequencer_in_order(self.0.as_ptr(), self.0.len()) == 1 }
     }
 
-    /// The next expected SN, as it stands in the state.
+    /// The next expected SN, as the state has it.
     #[inline]
     pub const fn nesn(&self) -> LinkNumber {
         LinkNumber(self.0[0])

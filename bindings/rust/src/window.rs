@@ -85,8 +85,8 @@ impl Default for Sender {
     }
 }
 
-/// The receiving end of the flow window: the expected PS, a mark that stands until the first
-/// packet has come, and a count of packets not yet told.
+/// The receiving end of the flow window: the expected PS, a mark that stands until a
+/// packet is accepted, and a count of packets not yet told.
 ///
 /// ```
 /// use pepperknoll::{PacketNumber, Receiver, Refusal};
@@ -103,11 +103,11 @@ impl Default for Sender {
 pub struct Receiver([u8; Receiver::BYTES]);
 
 impl Receiver {
-    /// The bytes of a state: `[0]` expected PS, `[1]` 1 while no packet has come and else 0,
+    /// The bytes of a state: `[0]` expected PS, `[1]` 1 until a packet is accepted and then 0,
     /// `[2]` count of packets not yet told.
     pub const BYTES: usize = 3;
 
-    /// A state to which nothing has come.
+    /// A state that has accepted nothing.
     #[inline]
     pub fn fresh() -> Self {
         let mut bytes = [0; Self::BYTES];

@@ -8,6 +8,7 @@
 pub mod frame;
 pub mod message;
 pub mod number;
+pub mod packed;
 mod refusal;
 pub mod resequencer;
 pub mod route;

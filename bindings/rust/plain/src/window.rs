@@ -68,7 +68,7 @@ impl Sender {
 #[derive(Clone, Copy, Debug, PartialEq, Eq)]
 pub struct Receiver {
     pub expected: u8,
-    /// Stands while no packet has come.
+    /// Stands until a packet is accepted.
     pub mark: bool,
     /// Packets taken and not yet told.
     pub count: u8,

@@ -1,8 +1,8 @@
 //! The choice of an interrogator, from a set and from a table.
 
 use pepperknoll::raw;
-use plain::route::{self, Table, CLEARING};
-use plain::Refusal;
+use plain::packed::{self, last_used, NO_CODE};
+use plain::route::{self, Table};
 
 use crate::support::{by_number, safe_by_number, Call, Lent, Random, Trial};
 
@@ -11,23 +11,6 @@ pub fn run(trial: &mut Trial) {
     small_sets(trial);
     random_sets(trial);
     from_tables(trial);
-}
-
-/// How the header writes that no code was used before.
-const NO_CODE: u16 = 0xFFFF;
-
-/// The answer that the header gives: the clearing codes stand beside 8 alone.
-fn wanted_answer(wanted: Result<u8, Refusal>) -> u32 {
-    let (cause, diagnostic) = CLEARING;
-    match wanted {
-        Ok(code) => u32::from(code) << 8,
-        Err(Refusal::NoInterrogator) => 8 | u32::from(cause) << 16 | u32::from(diagnostic) << 24,
-        Err(refusal) => refusal.number().into(),
-    }
-}
-
-fn last_used(last: u16) -> Option<u16> {
-    (last != NO_CODE).then_some(last)
 }
 
 /// The safe calls take a byte; a code over that can be lent to the library only.
@@ -44,7 +27,7 @@ fn check(trial: &mut Trial, codes: u16, last: u16, failed: u16) {
     let got = unsafe { raw::pk_choose(codes, last, failed) };
     trial.tally.saw(Call::Choose, got.into());
     let what = || format!("codes {codes:x}, last {last}, failed {failed:x}");
-    assert_eq!(got, wanted_answer(wanted), "{}", what());
+    assert_eq!(u64::from(got), packed::choice(&wanted), "{}", what());
     if let Some(last) = safe_last(last) {
         let safe = pepperknoll::choose(codes, last, failed);
         assert_eq!(safe_by_number(safe), by_number(wanted), "{}", what());
@@ -128,7 +111,12 @@ fn from_tables(trial: &mut Trial) {
             // SAFETY: the list is lent with its own length.
             let got = unsafe { raw::pk_table_choose(start, length, address, last, failed) };
             trial.tally.saw(Call::TableChoose, got.into());
-            assert_eq!(got, wanted_answer(wanted), "{address}, {last}, {failed:x}");
+            let wanted_answer = packed::choice(&wanted);
+            assert_eq!(
+                u64::from(got),
+                wanted_answer,
+                "{address}, {last}, {failed:x}"
+            );
             if let Some(last) = safe_last(last) {
                 let safe = safe.choose(address, last, failed);
                 assert_eq!(safe_by_number(safe), by_number(wanted));

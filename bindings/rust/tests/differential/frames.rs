@@ -3,6 +3,7 @@
 use pepperknoll::raw;
 use pepperknoll::{LinkNumber, PacketNumber};
 use plain::frame::{self, Form, Packet};
+use plain::packed;
 use plain::Refusal;
 
 use crate::support::{answer, by_number, safe_by_number, Call, Lent, Random, Trial};
@@ -165,10 +166,7 @@ fn check_read(trial: &mut Trial, bed: &mut Bed, form: u8, frame: &[u8]) -> Optio
         )
     };
     trial.tally.saw(Call::FrameRead, got);
-    let wanted_answer = answer(&wanted, |(packet, user)| {
-        packet.header_len() as u64 | (user.len() as u64) << 8
-    });
-    assert_eq!(got, wanted_answer, "{}", what());
+    assert_eq!(got, packed::reading(&wanted), "{}", what());
     let packet = wanted.map_or(before, |(packet, _)| packet.to_bytes());
     bed.packet.assert_holds(&packet, what);
     bed.frame.assert_holds(frame, what);

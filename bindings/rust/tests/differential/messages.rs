@@ -3,6 +3,7 @@
 use pepperknoll::{raw, LinkNumber, PacketNumber};
 use plain::frame::{self, Form, Packet};
 use plain::message::{self, Cut, Start};
+use plain::packed;
 use plain::Refusal;
 
 use crate::frames::{safe_form, some_form};
@@ -60,10 +61,7 @@ impl Cutting {
         let wanted = self.plain(&mut out, &mut lengths);
         let got = self.raw(bed);
         trial.tally.saw(Call::MessageCut, got);
-        let wanted_answer = answer(&wanted, |made| {
-            made.frames as u64 | (made.bytes as u64) << 24
-        });
-        assert_eq!(got, wanted_answer, "{self:?}");
+        assert_eq!(got, packed::cutting(&wanted), "{self:?}");
         let what = || format!("{self:?}");
         bed.frames.assert_holds(&out, what);
         bed.lengths.assert_holds(&lengths, what);

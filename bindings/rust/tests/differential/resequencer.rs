@@ -2,9 +2,10 @@
 
 use pepperknoll::{raw, LinkNumber};
 use plain::number::link_distance;
+use plain::packed;
 use plain::resequencer::{Answer, Outcome, Resequencer, BYTES, PLACES};
 
-use crate::support::{answer, by_number, safe_by_number, Call, Lent, Random, Trial};
+use crate::support::{by_number, safe_by_number, Call, Lent, Random, Trial};
 
 pub fn run(trial: &mut Trial) {
     fresh(trial);
@@ -85,10 +86,7 @@ impl States {
             ),
         };
         trial.tally.saw(call, got.into());
-        let wanted_answer = answer(&wanted, |answer| {
-            answer.outcome as u64 | u64::from(answer.count) << 8
-        });
-        assert_eq!(u64::from(got), wanted_answer, "{}", what());
+        assert_eq!(u64::from(got), packed::event(&wanted), "{}", what());
         let bytes = self.plain.to_bytes();
         self.tickets.assert_holds(&places, what);
         self.lent.assert_holds(&bytes, what);

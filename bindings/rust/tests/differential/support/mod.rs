@@ -8,6 +8,8 @@ pub use lent::Lent;
 pub use random::Random;
 pub use tally::{Call, Tally};
 
+pub use plain::packed::answer;
+
 use std::io::Write;
 use std::sync::{Mutex, Once, PoisonError};
 
@@ -65,14 +67,6 @@ pub fn say(text: &str) {
     std::io::stderr()
         .write_all(text.as_bytes())
         .expect("stderr takes it");
-}
-
-/// The answer that the header gives for a result: the refusal's number, or the values.
-pub fn answer<T>(result: &Result<T, plain::Refusal>, values: impl FnOnce(&T) -> u64) -> u64 {
-    match result {
-        Ok(done) => values(done) << 8,
-        Err(refusal) => refusal.number().into(),
-    }
 }
 
 /// A result of the plain version, to be compared with one of the safe calls.
