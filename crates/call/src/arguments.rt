@@ -1,43 +1,30 @@
-// A call's arguments, from the words of its line. A number is at most 65,535 and a list has at most
-// 8,192 bytes, so a larger answer says what is wrong; its last digit is the reason's in `line`.
+// A call's arguments, from the words of its line. A word is given by the index `before` of the
+// blank before it, and by its end. A number is at most 65,535 and a list has at most 8,192 bytes: a
+// larger answer is one of `faults`.
 ghost use Prim.Native.Nat.{_≤_, _<_};
 ghost use lib.ListN.{length};
+use crate::Memory;
+use crate::Values;
+use crate::faults;
 use crate::text;
 
-pub const NO_SUCH_CALL: usize = 100001;
-
-pub const MISSING: usize = 100002;
-
-pub const NOT_A_NUMBER: usize = 100003;
-
-pub const NUMBER_TOO_LARGE: usize = 100004;
-
-pub const NOT_A_LIST: usize = 100005;
-
-pub const LIST_TOO_LONG: usize = 100006;
-
-pub const TOO_MANY: usize = 100007;
-
-pub const LINE_TOO_LONG: usize = 100008;
-
-// Reads the arguments that a row of the table of calls names, from the blank before the first one on,
-// and answers what is wrong, 0 for nothing. The first of the values is then the argument that is
-// wrong, 0 for none.
+// Reads the arguments that a row names from its third byte on, as `read_one` lists them, and
+// answers what is wrong, 0 for nothing. `before` is the end of the line's first word.
 pub fn read(
     line: &[u8],
-    from: usize,
+    before: usize,
     row: &[u8],
-    a: &mut [u8; 8192],
-    b: &mut [u8; 8192],
-    c: &mut [u8; 8192],
-    values: &mut [usize; 13],
+    a: &mut Memory,
+    b: &mut Memory,
+    c: &mut Memory,
+    values: &mut Values,
 ) -> usize {
-    let mut at = from;
+    let mut at = before;
     let mut k = 2;
     while k < row.len() {
         values[0] = k - 1;
         if line.len() <= at {
-            return MISSING;
+            return faults::MISSING;
         }
         let to = text::find(line, at + 1, line.len(), b' ');
         let kind = row[k];
@@ -51,35 +38,35 @@ pub fn read(
         k += 1;
     }
     values[0] = 0;
-    if at < line.len() { TOO_MANY } else { 0 }
+    if at < line.len() { faults::TOO_MANY } else { 0 }
 }
 
-// Reads one argument: a number is the answer, a list goes to its memory and its length in bytes is
-// the answer. Tickets and lengths are kept as their bytes.
+// Reads one argument: `n` is a number of one byte, `w` one of two; `a`, `b` and `c` are lists of
+// bytes, `t` is one of tickets and `l` one of lengths, both in the memory of `c`. A number is the
+// answer; of a list that is its length in bytes.
 fn read_one(
     kind: u8,
     line: &[u8],
     before: usize,
     to: usize,
-    a: &mut [u8; 8192],
-    b: &mut [u8; 8192],
-    c: &mut [u8; 8192],
+    a: &mut Memory,
+    b: &mut Memory,
+    c: &mut Memory,
 ) -> usize
     requires { ⌜ (before < to) × (to ≤ length (now line)) ⌝ }
 {
     match kind {
         b'n' => number(line, before, to, 255),
         b'w' => number(line, before, to, 65535),
-        b'a' | b'A' => list(line, before, to, 2, a),
-        b'b' | b'B' => list(line, before, to, 2, b),
-        b't' | b'T' => list(line, before, to, 4, c),
-        b'l' | b'L' => list(line, before, to, 8, c),
-        _ => list(line, before, to, 2, c),
+        b'a' | b'A' => list(line, before, to, 2, 8192, a),
+        b'b' | b'B' => list(line, before, to, 2, 8192, b),
+        b't' | b'T' => list(line, before, to, 4, 4096, c),
+        b'l' | b'L' => list(line, before, to, 8, 4096, c),
+        _ => list(line, before, to, 2, 8192, c),
     }
 }
 
-// Where a value is kept: a number by its place in the row, the lengths of the three lists after all
-// numbers.
+// Where among the values an argument is.
 fn place(kind: u8, k: usize) -> usize
     ensures { λ r. ⌜ r < 13 ⌝ }
 {
@@ -95,17 +82,18 @@ fn number(line: &[u8], before: usize, to: usize, most: usize) -> usize
     requires { ⌜ (before < to) × (to ≤ length (now line)) ⌝ }
 {
     let value = decimal(line, before, to);
-    if value == NOT_A_NUMBER {
+    if value == faults::NOT_A_NUMBER {
         return value;
     }
     if most < value {
-        NUMBER_TOO_LARGE
+        faults::NUMBER_TOO_LARGE
     } else {
         value
     }
 }
 
-// One to five decimal digits. The remainder changes nothing: it says that the number stays small.
+// One to five decimal digits. The remainder shows the prover that the number stays small; it
+// changes nothing where the number is answered.
 fn decimal(line: &[u8], before: usize, to: usize) -> usize
     requires { ⌜ (before < to) × (to ≤ length (now line)) ⌝ }
 {
@@ -114,20 +102,28 @@ fn decimal(line: &[u8], before: usize, to: usize) -> usize
     while i < to {
         let d = text::digit(line[i]) as usize;
         if 9 < d {
-            return NOT_A_NUMBER;
+            return faults::NOT_A_NUMBER;
         }
         value = value % 10000 * 10 + d;
         i += 1;
     }
     match to - before {
         2..=6 => value,
-        _ => NOT_A_NUMBER,
+        _ => faults::NOT_A_NUMBER,
     }
 }
 
-// Parts, joined by commas, of elements with so many digits each.
-fn list(line: &[u8], before: usize, to: usize, digits: usize, out: &mut [u8; 8192]) -> usize
-    requires { ⌜ (before < to) × (to ≤ length (now line)) × (0 < digits) ⌝ }
+// Parts, joined by commas, of elements with so many digits each. A list has at most 8,192 bytes,
+// 2,048 tickets or 1,024 lengths: `most` bytes.
+fn list(
+    line: &[u8],
+    before: usize,
+    to: usize,
+    digits: usize,
+    most: usize,
+    memory: &mut Memory,
+) -> usize
+    requires { ⌜ (before < to) × (to ≤ length (now line)) × (0 < digits) × (most ≤ 8192) ⌝ }
 {
     if to - before == 2 {
         if line[before + 1] == b'-' {
@@ -139,38 +135,40 @@ fn list(line: &[u8], before: usize, to: usize, digits: usize, out: &mut [u8; 819
     while end < to {
         let from = end + 1;
         end = text::find(line, from, to, b',');
-        size = part(line, from, end, digits, out, size);
-        if size == NOT_A_LIST {
+        size = part(line, from, end, digits, most, memory, size);
+        if size == faults::NOT_A_LIST {
             return size;
         }
     }
     size
 }
 
-// Adds a part to a list of `size` bytes.
+// Adds a part to a list of `size` bytes, and answers the list's new size. Where the list was too
+// long already, it still is.
 fn part(
     line: &[u8],
     from: usize,
     to: usize,
     digits: usize,
-    out: &mut [u8; 8192],
+    most: usize,
+    memory: &mut Memory,
     size: usize,
 ) -> usize
-    requires { ⌜ (from ≤ to) × (to ≤ length (now line)) × (0 < digits) ⌝ }
+    requires { ⌜ (from ≤ to) × (to ≤ length (now line)) × (0 < digits) × (most ≤ 8192) ⌝ }
 {
     let star = text::find(line, from, to, b'*');
     let times = times(line, star, to);
-    if times == NOT_A_NUMBER {
-        return NOT_A_LIST;
+    if times == faults::NOT_A_NUMBER {
+        return faults::NOT_A_LIST;
     }
-    if elements(line, from, star, digits) {
-        repeat(line, from, star, times, most(digits), out, size)
+    if are_elements(line, from, star, digits) {
+        repeat(line, from, star, times, most, memory, size)
     } else {
-        NOT_A_LIST
+        faults::NOT_A_LIST
     }
 }
 
-// How often a part is repeated, by what follows its elements.
+// How often a part is repeated: by the number after its star, or once where it has none.
 fn times(line: &[u8], star: usize, to: usize) -> usize
     requires { ⌜ (star ≤ to) × (to ≤ length (now line)) ⌝ }
 {
@@ -181,8 +179,8 @@ fn times(line: &[u8], star: usize, to: usize) -> usize
     }
 }
 
-// Whether there are whole elements, at least one, and nothing else.
-fn elements(line: &[u8], from: usize, to: usize, digits: usize) -> bool
+// Whether a range has whole elements, at least one, and nothing else.
+fn are_elements(line: &[u8], from: usize, to: usize, digits: usize) -> bool
     requires { ⌜ (from ≤ to) × (to ≤ length (now line)) × (0 < digits) ⌝ }
 {
     let mut i = from;
@@ -195,20 +193,14 @@ fn elements(line: &[u8], from: usize, to: usize, digits: usize) -> bool
     from < to && (to - from) % digits == 0
 }
 
-// The bytes that a list has at most: 8,192 of them, 2,048 tickets or 1,024 lengths.
-fn most(digits: usize) -> usize
-    ensures { λ r. ⌜ r ≤ 8192 ⌝ }
-{
-    if digits == 2 { 8192 } else { 4096 }
-}
-
+// Adds elements as often as is asked, but stops where the list is too long.
 fn repeat(
     line: &[u8],
     from: usize,
     to: usize,
     times: usize,
     most: usize,
-    out: &mut [u8; 8192],
+    memory: &mut Memory,
     before: usize,
 ) -> usize
     requires { ⌜ (from ≤ to) × (to ≤ length (now line)) × (most ≤ 8192) ⌝ }
@@ -217,20 +209,21 @@ fn repeat(
     let mut left = times;
     while 0 < left {
         if most < size {
-            return LIST_TOO_LONG;
+            return faults::LIST_TOO_LONG;
         }
-        size = once(line, from, to, most, out, size);
+        size = once(line, from, to, most, memory, size);
         left -= 1;
     }
     size
 }
 
+// Adds elements once, a byte for each two digits.
 fn once(
     line: &[u8],
     from: usize,
     to: usize,
     most: usize,
-    out: &mut [u8; 8192],
+    memory: &mut Memory,
     before: usize,
 ) -> usize
     requires { ⌜ (from ≤ to) × (to ≤ length (now line)) × (most ≤ 8192) ⌝ }
@@ -239,16 +232,11 @@ fn once(
     let mut i = from;
     while i + 1 < to {
         if most <= size {
-            return LIST_TOO_LONG;
+            return faults::LIST_TOO_LONG;
         }
-        out[size] = pair(line[i], line[i + 1]);
+        memory[size] = text::digit(line[i]) % 16 * 16 + text::digit(line[i + 1]) % 16;
         size += 1;
         i += 2;
     }
     size
-}
-
-// The byte that two hex digits are.
-fn pair(high: u8, low: u8) -> u8 {
-    text::digit(high) % 16 * 16 + text::digit(low) % 16
 }

@@ -1,10 +1,10 @@
-// The calls themselves, by the letters that the table of calls gives them.
-ghost use Prim.Native.Nat.{_+_, _≤_, _<_};
-ghost use lib.ListN.{length};
-use crate::text;
+// The calls themselves, by the letters that the table in `line` gives them.
+ghost use Prim.Native.Nat.{_<_};
+use crate::Values;
+use crate::elements;
 
 // Makes a call with the lists and the numbers of its line.
-pub fn make(call: u8, a: &mut [u8], b: &mut [u8], c: &mut [u8], values: &[usize; 13]) -> u64 {
+pub fn make(call: u8, a: &mut [u8], b: &mut [u8], c: &mut [u8], values: &Values) -> u64 {
     if call < b'F' {
         return count(call, values) as u64;
     }
@@ -14,31 +14,25 @@ pub fn make(call: u8, a: &mut [u8], b: &mut [u8], c: &mut [u8], values: &[usize;
     if call < b'T' {
         return change(call, a, small(values, 2)) as u64;
     }
-    match call {
-        b'T' | b'U' => release(call, a, c, values) as u64,
-        b'V' => capi::pk_frame_write(small(values, 1), a, b, c),
-        b'W' => capi::pk_frame_read(small(values, 1), a, b),
-        b'X' | b'Y' => message(call, a, b, c, values),
-        _ => capi::pk_table_update(a, b, c) as u64,
-    }
+    several(call, a, b, c, values)
 }
 
 // An argument that is a number of one byte. Arguments count from 1.
-fn small(values: &[usize; 13], argument: usize) -> u8
+fn small(values: &Values, argument: usize) -> u8
     requires { ⌜ argument < 10 ⌝ }
 {
     (large(values, argument) % 256) as u8
 }
 
 // An argument that is a number of two bytes.
-fn large(values: &[usize; 13], argument: usize) -> u16
+fn large(values: &Values, argument: usize) -> u16
     requires { ⌜ argument < 10 ⌝ }
 {
     (values[argument + 1] % 65536) as u16
 }
 
 // The calls on numbers alone.
-fn count(call: u8, values: &[usize; 13]) -> u32 {
+fn count(call: u8, values: &Values) -> u32 {
     let x = small(values, 1);
     let y = small(values, 2);
     match call {
@@ -51,7 +45,7 @@ fn count(call: u8, values: &[usize; 13]) -> u32 {
 }
 
 // The calls that look at a state.
-fn look(call: u8, state: &[u8], values: &[usize; 13]) -> u32 {
+fn look(call: u8, state: &[u8], values: &Values) -> u32 {
     let address = small(values, 2);
     match call {
         b'F' => capi::pk_sender_in_order(state),
@@ -77,16 +71,27 @@ fn change(call: u8, state: &mut [u8], number: u8) -> u32 {
     }
 }
 
+// The calls with several lists.
+fn several(call: u8, a: &mut [u8], b: &mut [u8], c: &mut [u8], values: &Values) -> u64 {
+    match call {
+        b'T' | b'U' => release(call, a, c, values) as u64,
+        b'V' => capi::pk_frame_write(small(values, 1), a, b, c),
+        b'W' => capi::pk_frame_read(small(values, 1), a, b),
+        b'X' | b'Y' => message(call, a, b, c, values),
+        _ => capi::pk_table_update(a, b, c) as u64,
+    }
+}
+
 // The two calls that let tickets go.
-fn release(call: u8, state: &mut [u8], list: &mut [u8], values: &[usize; 13]) -> u32 {
+fn release(call: u8, state: &mut [u8], list: &mut [u8], values: &Values) -> u32 {
     let mut tickets = [0u16; 2048];
-    let end = read_tickets(list, &mut tickets);
+    let end = elements::read_tickets(list, &mut tickets);
     let code = let_go(call, state, &mut tickets[0..end], values);
-    write_tickets(&tickets, list);
+    elements::write_tickets(&tickets, list);
     code
 }
 
-fn let_go(call: u8, state: &mut [u8], tickets: &mut [u16], values: &[usize; 13]) -> u32 {
+fn let_go(call: u8, state: &mut [u8], tickets: &mut [u16], values: &Values) -> u32 {
     let sn = small(values, 3);
     if call == b'T' {
         capi::pk_resequencer_arrive(state, tickets, sn, large(values, 4))
@@ -96,21 +101,15 @@ fn let_go(call: u8, state: &mut [u8], tickets: &mut [u16], values: &[usize; 13])
 }
 
 // The two calls on messages.
-fn message(call: u8, a: &[u8], b: &mut [u8], list: &mut [u8], values: &[usize; 13]) -> u64 {
+fn message(call: u8, a: &[u8], b: &mut [u8], list: &mut [u8], values: &Values) -> u64 {
     let mut lengths = [0usize; 1024];
-    let end = read_lengths(list, &mut lengths);
+    let end = elements::read_lengths(list, &mut lengths);
     let code = cut_or_join(call, a, b, &mut lengths[0..end], values);
-    write_lengths(&lengths, list);
+    elements::write_lengths(&lengths, list);
     code
 }
 
-fn cut_or_join(
-    call: u8,
-    a: &[u8],
-    b: &mut [u8],
-    lengths: &mut [usize],
-    values: &[usize; 13],
-) -> u64 {
+fn cut_or_join(call: u8, a: &[u8], b: &mut [u8], lengths: &mut [usize], values: &Values) -> u64 {
     let form = small(values, 1);
     if call == b'Y' {
         return capi::pk_message_join(form, lengths, a, b);
@@ -120,77 +119,4 @@ fn cut_or_join(
     let pr = small(values, 4);
     let ch = small(values, 5);
     capi::pk_message_cut(form, sn, ps, pr, ch, a, b, lengths)
-}
-
-// ---- tickets and lengths, and the bytes as which they are written, the highest first
-
-fn read_tickets(list: &[u8], tickets: &mut [u16]) -> usize
-    ensures { λ r. ⌜ r ≤ length (now (tickets .entry)) ⌝ }
-{
-    let count = text::least(list.len() / 2, tickets.len());
-    let mut i = 0;
-    while i < count {
-        tickets[i] = (element(list, 2 * i, 2) % 65536) as u16;
-        i += 1;
-    }
-    count
-}
-
-fn read_lengths(list: &[u8], lengths: &mut [usize]) -> usize
-    ensures { λ r. ⌜ r ≤ length (now (lengths .entry)) ⌝ }
-{
-    let count = text::least(list.len() / 4, lengths.len());
-    let mut i = 0;
-    while i < count {
-        lengths[i] = element(list, 4 * i, 4);
-        i += 1;
-    }
-    count
-}
-
-fn write_tickets(tickets: &[u16; 2048], list: &mut [u8]) {
-    let count = text::least(list.len() / 2, 2048);
-    let mut i = 0;
-    while i < count {
-        set_element(list, 2 * i, 2, wide(tickets[i]));
-        i += 1;
-    }
-}
-
-fn wide(ticket: u16) -> usize {
-    ticket as usize
-}
-
-fn write_lengths(lengths: &[usize; 1024], list: &mut [u8]) {
-    let count = text::least(list.len() / 4, 1024);
-    let mut i = 0;
-    while i < count {
-        set_element(list, 4 * i, 4, lengths[i]);
-        i += 1;
-    }
-}
-
-// The number that `size` bytes are. The remainder changes nothing: it says that the number fits.
-fn element(list: &[u8], at: usize, size: usize) -> usize
-    requires { ⌜ at + size ≤ length (now list) ⌝ }
-{
-    let mut value = 0;
-    let mut i = at;
-    while i < at + size {
-        value = value % 16777216 * 256 + list[i] as usize;
-        i += 1;
-    }
-    value
-}
-
-pub fn set_element(list: &mut [u8], at: usize, size: usize, value: usize)
-    requires { ⌜ at + size ≤ length (now list) ⌝ }
-{
-    let mut rest = value;
-    let mut i = at + size;
-    while at < i {
-        i -= 1;
-        list[i] = (rest % 256) as u8;
-        rest = rest / 256;
-    }
 }

@@ -1,8 +1,9 @@
 // One line: what it asks for, and what is printed of it.
-ghost use mathlib.Core.Path.{_≡_};
-ghost use lib.ListN.{length};
+use crate::Memory;
+use crate::Values;
 use crate::arguments;
 use crate::calls;
+use crate::faults;
 use crate::print;
 use crate::text;
 use libc::STDOUT_FILENO;
@@ -10,21 +11,20 @@ use libc::STDOUT_FILENO;
 // Runs a line. A comment and an empty line are printed as they are.
 pub fn run(line: &[u8], number: u64) {
     if 65535 < line.len() {
-        complain(arguments::LINE_TOO_LONG, 0, number);
+        faults::complain(faults::LINE_TOO_LONG, 0, number);
     } else if line.len() == 0 || line[0] == b'#' {
-        print::bytes(line);
-        print::end();
+        io::write_all(STDOUT_FILENO, line);
+        print::line_feed();
     } else {
         find_call(line, number);
     }
 }
 
-// Looks the call up. A row has the call's name, its letter, the bytes of its answer and its
-// arguments in the header's order: `n` is a number of one byte, `w` one of two; `a`, `b` and `c` are
-// lists of bytes, `t` is one of tickets and `l` one of lengths, both in the memory of `c`. A list in
-// upper case may be written by the call and is printed.
+// Looks the call up. A row has the call's name, the letter that it has in `calls`, the bytes of its
+// answer and its arguments in the header's order, in the letters that `arguments::read_one` lists.
+// A list in upper case may be written by the call, and is printed.
 fn find_call(line: &[u8], number: u64) {
-    let table = b"pk_link_distance A1nn\n\
+    let table: &[u8] = b"pk_link_distance A1nn\n\
         pk_link_next B1n\n\
         pk_packet_distance C1nn\n\
         pk_packet_next D1n\n\
@@ -50,14 +50,10 @@ fn find_call(line: &[u8], number: u64) {
         pk_message_cut X8nnnnnaBL\n\
         pk_message_join Y8nlaB\n\
         pk_table_update Z4AbC\n";
-    make_by(table, line, number);
-}
-
-fn make_by(table: &[u8], line: &[u8], number: u64) {
     let end = text::find(line, 0, line.len(), b' ');
     let start = text::row(table, &line[0..end]);
     if table.len() <= start {
-        complain(arguments::NO_SUCH_CALL, 0, number);
+        faults::complain(faults::NO_SUCH_CALL, 0, number);
     } else {
         let row_end = text::find(table, start, table.len(), b'\n');
         make(&table[start..row_end], line, end, number);
@@ -72,7 +68,7 @@ fn make(row: &[u8], line: &[u8], from: usize, number: u64) {
     let mut values = [0usize; 13];
     let reason = arguments::read(line, from, row, &mut a, &mut b, &mut c, &mut values);
     if 0 < reason {
-        complain(reason, values[0], number);
+        faults::complain(reason, values[0], number);
     } else {
         answer(row, &mut a, &mut b, &mut c, &values);
     }
@@ -80,30 +76,17 @@ fn make(row: &[u8], line: &[u8], from: usize, number: u64) {
 
 // Makes the call, and prints its answer and the lists that it may have written. Every row has a
 // letter and a digit.
-fn answer(
-    row: &[u8],
-    a: &mut [u8; 8192],
-    b: &mut [u8; 8192],
-    c: &mut [u8; 8192],
-    values: &[usize; 13],
-) {
+fn answer(row: &[u8], a: &mut Memory, b: &mut Memory, c: &mut Memory, values: &Values) {
     if 1 < row.len() {
         let code = make_with(row[0], a, b, c, values);
-        print_code(code, text::digit(row[1]) as usize);
+        print::code(code, text::digit(row[1]) as usize);
         print_lists(row, a, b, c, values);
-        print::end();
+        print::line_feed();
     }
 }
 
-// Prints an answer of so many bytes.
-fn print_code(code: u64, size: usize) {
-    let mut bytes = [0u8; 8192];
-    calls::set_element(&mut bytes, 0, text::least(size, 8), code as usize);
-    print::list(&bytes, size, 1);
-}
-
 // Lends the call as much of the lists' memory as the lists have.
-fn make_with(call: u8, a: &mut [u8], b: &mut [u8], c: &mut [u8], values: &[usize; 13]) -> u64 {
+fn make_with(call: u8, a: &mut [u8], b: &mut [u8], c: &mut [u8], values: &Values) -> u64 {
     let end_a = text::least(values[10], a.len());
     let end_b = text::least(values[11], b.len());
     let end_c = text::least(values[12], c.len());
@@ -116,7 +99,7 @@ fn make_with(call: u8, a: &mut [u8], b: &mut [u8], c: &mut [u8], values: &[usize
     )
 }
 
-fn print_lists(row: &[u8], a: &[u8; 8192], b: &[u8; 8192], c: &[u8; 8192], values: &[usize; 13]) {
+fn print_lists(row: &[u8], a: &Memory, b: &Memory, c: &Memory, values: &Values) {
     let mut k = 2;
     while k < row.len() {
         match row[k] {
@@ -127,34 +110,4 @@ fn print_lists(row: &[u8], a: &[u8; 8192], b: &[u8; 8192], c: &[u8; 8192], value
         }
         k += 1;
     }
-}
-
-// Prints what is wrong with a line, and with which of its arguments.
-fn complain(reason: usize, argument: usize, number: u64) {
-    print::bytes(b"line ");
-    io::print_decimal(STDOUT_FILENO, number);
-    if 0 < argument {
-        print::bytes(b": argument ");
-        io::print_decimal(STDOUT_FILENO, argument as u64);
-    }
-    print_reason(
-        reason,
-        b"1 : no such call\n\
-        2 : missing\n\
-        3 : not a number\n\
-        4 : number too large\n\
-        5 : not a list\n\
-        6 : list too long\n\
-        7 : too many arguments\n\
-        8 : longer than 65,535 bytes\n",
-    );
-}
-
-// Prints the words of a reason, which the reason's last digit names, with their line feed.
-fn print_reason(reason: usize, table: &[u8]) {
-    let name = [text::shown((reason % 10) as u8)];
-    let start = text::row(table, &name);
-    let end = text::find(table, start, table.len(), b'\n');
-    print::bytes(&table[start..end]);
-    print::end();
 }

@@ -1,27 +1,31 @@
-// Makes the calls that standard input has, one a line, and prints their answers (docs/CALL.md). Here
-// the input is cut into lines; `line` runs one of them.
+// Makes the calls that standard input has, one a line, and prints their answers (docs/CALL.md).
+// Here the input is cut into lines; `line` runs one of them.
 ghost use Prim.Native.Nat.{_≤_, _<_};
-ghost use mathlib.Core.Path.{_≡_};
 ghost use lib.ListN.{length};
 
 mod arguments;
 mod calls;
+mod elements;
+mod faults;
 mod line;
 mod print;
 mod text;
 
 use libc::STDIN_FILENO;
 
-fn main() {
-    let mut input = input_buffer();
-    read_all(&mut input);
-}
+// The memory of a list. Tickets and lengths are kept as their bytes, the highest first, and take at
+// most half of it.
+type Memory = [u8; 8192];
 
-// Twice what is kept of a line, so that there is always room to read.
-fn input_buffer() -> [u8; 131072]
-    ensures { λ r. ⌜ 131072 ≡ length r ⌝ }
-{
-    [0; 131072]
+// What is known of a call's arguments: at 0 the argument that cannot be read, 0 for none; from 2 to
+// 9 those that are numbers, argument K at K + 1; at 10, 11 and 12 how many bytes the lists `a`, `b`
+// and `c` have.
+type Values = [usize; 13];
+
+// The input has twice the room of what is kept of a line, so that there is always some to read to.
+fn main() {
+    let mut input = [0; 131072];
+    read_all(&mut input);
 }
 
 // Reads to the end of the input, and runs each line once it is whole: the first `kept` bytes of the

@@ -1,4 +1,4 @@
-// Bytes of a line: searching, and digits. A range of bytes is given by where it begins and ends.
+// Searching in bytes, and digits. A range of bytes is given by where it begins and where it ends.
 ghost use Prim.Native.Nat.{_≤_};
 ghost use lib.ListN.{length};
 
@@ -24,7 +24,7 @@ pub fn find(s: &[u8], from: usize, to: usize, byte: u8) -> usize
 }
 
 // Where the row of a table that has this name goes on after it, or the table's end where no row has
-// the name.
+// the name. A row begins with its name and a blank, and ends with a line feed.
 pub fn row(table: &[u8], name: &[u8]) -> usize
     ensures { λ r. ⌜ r ≤ length (now (table .entry)) ⌝ }
 {
@@ -69,7 +69,7 @@ pub fn digit(b: u8) -> u8 {
     }
 }
 
-// The digit of a value below 16.
+// The hex digit of a value below 16.
 pub fn shown(value: u8) -> u8 {
     let d = value % 16;
     if d < 10 { 48 + d } else { 55 + d }

@@ -6,10 +6,10 @@ use Rattle.call.proofs.arguments.list.Statement.{statement}
 use Rattle.call.proofs.arguments.list.Tie as tie
 
 abbrev Inv-loop : tie.InvT-loop
-Inv-loop line before to digits out₀ end₀ size₀ out end size = (before ≤ end) × (end ≤ to)
+Inv-loop line before to digits most memory₀ end₀ size₀ memory end size = (before ≤ end) × (end ≤ to)
 
 abbrev μ-loop : tie.MeasureT-loop
-μ-loop line before to digits out₀ end₀ size₀ out end size = to - end
+μ-loop line before to digits most memory₀ end₀ size₀ memory end size = to - end
 
 pub list-spec : {M : Type 1} → statement M
 list-spec =

@@ -6,10 +6,10 @@ use Rattle.call.proofs.arguments.once.Statement.{statement}
 use Rattle.call.proofs.arguments.once.Tie as tie
 
 abbrev Inv-loop : tie.InvT-loop
-Inv-loop line from to most out₀ before size₀ i₀ out size i = i ≤ to
+Inv-loop line from to most memory₀ before size₀ i₀ memory size i = i ≤ to
 
 abbrev μ-loop : tie.MeasureT-loop
-μ-loop line from to most out₀ before size₀ i₀ out size i = to - i
+μ-loop line from to most memory₀ before size₀ i₀ memory size i = to - i
 
 pub once-spec : {M : Type 1} → statement M
 once-spec =
@@ -21,9 +21,12 @@ once-spec =
     (λ c. search needs)
     (λ c. search needs)
     (λ c. search needs)
+    (λ c κs. search needs)
+    (λ c. search needs)
     (λ c. search needs)
     (λ c. search needs)
     (λ c κs. search needs)
+    (λ c. search needs)
     (λ c. search needs)
     (λ c. search needs)
     (λ c. search needs)

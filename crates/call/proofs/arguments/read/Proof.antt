@@ -7,10 +7,10 @@ use Rattle.call.proofs.arguments.read.Statement.{statement}
 use Rattle.call.proofs.arguments.read.Tie as tie
 
 abbrev Inv-loop : tie.InvT-loop
-Inv-loop line from row a₀ b₀ c₀ values₀ at₀ k₀ a b c values at k = 2 ≤ k
+Inv-loop line before row a₀ b₀ c₀ values₀ at₀ k₀ a b c values at k = 2 ≤ k
 
 abbrev μ-loop : tie.MeasureT-loop
-μ-loop line from row a₀ b₀ c₀ values₀ at₀ k₀ a b c values at k = length row - k
+μ-loop line before row a₀ b₀ c₀ values₀ at₀ k₀ a b c values at k = length row - k
 
 pub read-spec : {M : Type 1} → statement M
 read-spec =

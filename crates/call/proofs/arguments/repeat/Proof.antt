@@ -5,10 +5,10 @@ use Rattle.call.proofs.arguments.repeat.Statement.{statement}
 use Rattle.call.proofs.arguments.repeat.Tie as tie
 
 abbrev Inv-loop : tie.InvT-loop
-Inv-loop line from to times most out₀ before size₀ left₀ out size left = Unit
+Inv-loop line from to times most memory₀ before size₀ left₀ memory size left = Unit
 
 abbrev μ-loop : tie.MeasureT-loop
-μ-loop line from to times most out₀ before size₀ left₀ out size left = left
+μ-loop line from to times most memory₀ before size₀ left₀ memory size left = left
 
 pub repeat-spec : {M : Type 1} → statement M
 repeat-spec =

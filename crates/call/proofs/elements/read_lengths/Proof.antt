@@ -4,8 +4,8 @@ use mathlib.Core.Path.{_≡_}
 use Prim.Native.Nat.{_-_, _≤_}
 use lib.ListN.{length}
 use borrow.Author.Needs.{needs}
-use Rattle.call.proofs.calls.read_lengths.Statement.{statement}
-use Rattle.call.proofs.calls.read_lengths.Tie as tie
+use Rattle.call.proofs.elements.read_lengths.Statement.{statement}
+use Rattle.call.proofs.elements.read_lengths.Tie as tie
 
 abbrev Inv-loop : tie.InvT-loop
 Inv-loop list lengths₀ count i₀ lengths i = (i ≤ count) × (length lengths ≡ length lengths₀)

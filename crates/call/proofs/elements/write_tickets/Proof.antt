@@ -4,8 +4,8 @@ use mathlib.Core.Path.{_≡_}
 use Prim.Native.Nat.{_-_, _≤_}
 use lib.ListN.{length}
 use borrow.Author.Needs.{needs}
-use Rattle.call.proofs.calls.write_tickets.Statement.{statement}
-use Rattle.call.proofs.calls.write_tickets.Tie as tie
+use Rattle.call.proofs.elements.write_tickets.Statement.{statement}
+use Rattle.call.proofs.elements.write_tickets.Tie as tie
 
 abbrev Inv-loop : tie.InvT-loop
 Inv-loop tickets list₀ count i₀ list i = (i ≤ count) × (length list ≡ length list₀)

@@ -1,9 +1,9 @@
--- `elements` is safe and ends.
+-- `are_elements` is safe and ends.
 -- Assumes nothing.
 use Prim.Native.Nat.{_-_, _≤_}
 use borrow.Author.Needs.{needs}
-use Rattle.call.proofs.arguments.elements.Statement.{statement}
-use Rattle.call.proofs.arguments.elements.Tie as tie
+use Rattle.call.proofs.arguments.are_elements.Statement.{statement}
+use Rattle.call.proofs.arguments.are_elements.Tie as tie
 
 abbrev Inv-loop : tie.InvT-loop
 Inv-loop line from to digits i₀ i = i ≤ to
@@ -11,8 +11,8 @@ Inv-loop line from to digits i₀ i = i ≤ to
 abbrev μ-loop : tie.MeasureT-loop
 μ-loop line from to digits i₀ i = to - i
 
-pub elements-spec : {M : Type 1} → statement M
-elements-spec =
+pub are-elements-spec : {M : Type 1} → statement M
+are-elements-spec =
     tie.close
     (tie.spec
     Inv-loop

@@ -4,8 +4,8 @@ use mathlib.Core.Path.{_≡_}
 use Prim.Native.Nat.{_-_, _≤_}
 use lib.ListN.{length}
 use borrow.Author.Needs.{needs}
-use Rattle.call.proofs.calls.read_tickets.Statement.{statement}
-use Rattle.call.proofs.calls.read_tickets.Tie as tie
+use Rattle.call.proofs.elements.read_tickets.Statement.{statement}
+use Rattle.call.proofs.elements.read_tickets.Tie as tie
 
 abbrev Inv-loop : tie.InvT-loop
 Inv-loop list tickets₀ count i₀ tickets i = (i ≤ count) × (length tickets ≡ length tickets₀)

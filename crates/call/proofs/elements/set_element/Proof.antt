@@ -4,8 +4,8 @@ use mathlib.Core.Path.{_≡_}
 use Prim.Native.Nat.{_+_, _-_, _≤_}
 use lib.ListN.{length}
 use borrow.Author.Needs.{needs}
-use Rattle.call.proofs.calls.set_element.Statement.{statement}
-use Rattle.call.proofs.calls.set_element.Tie as tie
+use Rattle.call.proofs.elements.set_element.Statement.{statement}
+use Rattle.call.proofs.elements.set_element.Tie as tie
 
 abbrev Inv-loop : tie.InvT-loop
 Inv-loop list₀ at size value rest₀ i₀ list rest i = (i ≤ at + size) × (length list ≡ length list₀)

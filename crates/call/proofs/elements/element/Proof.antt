@@ -3,8 +3,8 @@
 use Prim.Native.Nat.{_+_, _-_, _≤_}
 use native.Mathlib.Omega.{arith}
 use borrow.Author.Needs.{needs}
-use Rattle.call.proofs.calls.element.Statement.{statement}
-use Rattle.call.proofs.calls.element.Tie as tie
+use Rattle.call.proofs.elements.element.Statement.{statement}
+use Rattle.call.proofs.elements.element.Tie as tie
 
 abbrev Inv-loop : tie.InvT-loop
 Inv-loop list at size value₀ i₀ value i = i ≤ at + size
