@@ -1,4 +1,5 @@
-/* A message is cut into frames, the frames arrive in another order, and the message is joined again. Prints what became of each arrival. */
+/* A message is cut into frames, the frames arrive in another order, and the message is joined
+ * again. Prints what became of each arrival. */
 #include <stdio.h>
 #include <string.h>
 
@@ -25,49 +26,70 @@ static int failed(const char *call, unsigned number)
     return 1;
 }
 
+/* The frames that have been handed on, in order. */
+static size_t handed, filled;
+
+static void hand_on(size_t frame)
+{
+    ordered_lengths[handed++] = lengths[frame];
+    memcpy(ordered + filled, wire + start_of(lengths, frame), lengths[frame]);
+    filled += lengths[frame];
+}
+
+/* A frame arrives; its ticket is its place among the frames. */
+static int arrives(uint8_t *state, size_t frame)
+{
+    const uint8_t *bytes = wire + start_of(lengths, frame);
+    uint8_t packet[PK_PACKET_BYTES], sn;
+    uint16_t tickets[PK_TICKETS];
+    uint64_t read = pk_frame_read(PK_LONG_UPLINK, bytes, lengths[frame], packet, sizeof packet);
+    uint32_t answer;
+    size_t k;
+
+    if (PK_NUMBER(read) != PK_DONE)
+        return failed("read", PK_NUMBER(read));
+    sn = packet[2];
+    answer = pk_resequencer_arrive(state, PK_RESEQUENCER_BYTES, tickets, PK_TICKETS, sn,
+                                   (uint16_t)frame);
+    if (PK_NUMBER(answer) != PK_DONE)
+        return failed("arrival", PK_NUMBER(answer));
+    printf("SN %d arrives: outcome %d, %d handed on\n", sn, PK_RESEQUENCER_OUTCOME(answer),
+           PK_RESEQUENCER_COUNT(answer));
+    for (k = 0; k < PK_RESEQUENCER_COUNT(answer); k++)
+        hand_on(tickets[k]);
+    return 0;
+}
+
 int main(void)
 {
     static const size_t order[] = { 1, 0, 3, 3, 2, 4 };
-    uint8_t state[PK_RESEQUENCER_BYTES], packet[PK_PACKET_BYTES];
-    uint16_t tickets[PK_TICKETS];
-    size_t i, handed = 0, filled = 0;
+    uint8_t state[PK_RESEQUENCER_BYTES];
     uint64_t cut, join;
+    size_t i;
 
     for (i = 0; i < MESSAGE; i++)
         message[i] = (uint8_t)(i * 7 + 1);
-    cut = pk_message_cut(PK_LONG_UPLINK, 62, 14, 5, 3, message, MESSAGE, wire, sizeof wire, lengths, FRAMES);
+    cut = pk_message_cut(PK_LONG_UPLINK, 62, 14, 5, 3, message, MESSAGE, wire, sizeof wire,
+                         lengths, FRAMES);
     if (PK_NUMBER(cut) != PK_DONE)
         return failed("cut", PK_NUMBER(cut));
-    printf("%d bytes cut into %zu frames of %zu bytes\n", MESSAGE, PK_FRAMES(cut), PK_BYTES(cut));
+    printf("%d bytes cut into %zu frames of %zu bytes\n", MESSAGE, PK_CUT_FRAMES(cut),
+           PK_CUT_BYTES(cut));
 
-    /* the other side expects SN 62 first: a fresh state, with NESN set by whoever has synchronized the link */
-    if (pk_resequencer_fresh(state, sizeof state) != PK_DONE)
+    /* the other side expects SN 62 first: a fresh state, with NESN set by whoever has synchronized
+     * the link */
+    if (PK_NUMBER(pk_resequencer_fresh(state, sizeof state)) != PK_DONE)
         return failed("fresh", PK_NOT_IN_ORDER);
     state[0] = 62;
+    for (i = 0; i < sizeof order / sizeof order[0]; i++)
+        if (arrives(state, order[i]))
+            return 1;
 
-    for (i = 0; i < sizeof order / sizeof order[0]; i++) {
-        size_t frame = order[i], k;
-        const uint8_t *bytes = wire + start_of(lengths, frame);
-        uint64_t read = pk_frame_read(PK_LONG_UPLINK, bytes, lengths[frame], packet, sizeof packet);
-        uint32_t answer;
-
-        if (PK_NUMBER(read) != PK_DONE)
-            return failed("read", PK_NUMBER(read));
-        /* the ticket names the frame; packet[2] is its SN */
-        answer = pk_resequencer_arrive(state, sizeof state, tickets, PK_TICKETS, packet[2], (uint16_t)frame);
-        if (PK_NUMBER(answer) != PK_DONE)
-            return failed("arrival", PK_NUMBER(answer));
-        printf("SN %d arrives: outcome %d, %d handed on\n", packet[2], PK_OUTCOME(answer), PK_COUNT(answer));
-        for (k = 0; k < PK_COUNT(answer); k++, handed++) {
-            ordered_lengths[handed] = lengths[tickets[k]];
-            memcpy(ordered + filled, wire + start_of(lengths, tickets[k]), lengths[tickets[k]]);
-            filled += lengths[tickets[k]];
-        }
-    }
-
-    join = pk_message_join(PK_LONG_UPLINK, ordered_lengths, handed, ordered, filled, joined, sizeof joined);
+    join = pk_message_join(PK_LONG_UPLINK, ordered_lengths, handed, ordered, filled, joined,
+                           sizeof joined);
     if (PK_NUMBER(join) != PK_DONE)
         return failed("join", PK_NUMBER(join));
-    printf("%zu frames joined to %zu bytes: %s\n", handed, (size_t)(join >> 8), memcmp(message, joined, MESSAGE) == 0 ? "the message" : "something else");
+    printf("%zu frames joined to %zu bytes: %s\n", handed, PK_JOIN_BYTES(join),
+           memcmp(message, joined, MESSAGE) == 0 ? "the message" : "something else");
     return 0;
 }

@@ -6,20 +6,26 @@
  * Every call ends and accepts any arguments: what cannot be done is refused with a number.
  *
  * Answers. A call returns one number. Its low 8 bits are the refusal number, 0 for done (PK_NUMBER
- * below); the bits above hold the values that the call's comment names. After a refusal they are 0,
- * except for the two clearing codes of a choice. The four calls on sequence numbers and the three
- * `.._in_order` calls are never refused: their answer is the value itself.
+ * below); the bits above hold the values that the call's comment names, each with a macro that is
+ * named after the call. After a refusal they are 0. The four calls on sequence numbers are never
+ * refused: their answer is the value itself. Every macro evaluates its argument once.
+ *
+ * Order. "Refused with 14, 1" means that 14 is checked before 1.
  *
  * Lent memory. A list is lent as a pointer and a length. The pointer must be good for that many
- * elements, and two lists of one call must not overlap where the call writes to one of them. The
- * pointer of a list of length 0 is not used, but it must not be NULL and must be aligned. A refused
- * call leaves every lent byte as it was.
+ * elements, and two lists of one call must not overlap where the call writes to one of them. No
+ * pointer may be NULL or misaligned, even if its length is 0 (the pointer is then not used); the
+ * calls for which a length of 0 makes sense repeat this. A refused call writes nothing.
  *
  * States. A state is a fixed number of bytes that the caller keeps, and may copy, store and send.
  * Its layout is given below: words are stored with the lowest byte first, at any alignment. Bytes
- * that are not such a state, or are not in good order, are refused with PK_NOT_IN_ORDER (14), by
- * every call that reads a state. So is a list that must have a fixed length (a state, the places
- * for tickets, a packet, the report of a route list) and has another.
+ * of another length, bytes that are not such a state, and a state that is not in good order are
+ * refused with PK_NOT_IN_ORDER (14); nothing else is. A call that makes a state, `.._fresh` or
+ * `pk_table_empty`, looks at the length alone.
+ *
+ * Results. A list for results (tickets, a packet that is read, the report of an update) has the
+ * number of places that its constant gives, or more: fewer are refused with PK_OUTPUT_TOO_SHORT
+ * (5), and places beyond that number keep what they held.
  */
 #ifndef PEPPERKNOLL_H
 #define PEPPERKNOLL_H
@@ -34,7 +40,8 @@ extern "C" {
 /* ---- refusals */
 
 #define PK_DONE 0
-#define PK_OUT_OF_RANGE 1          /* an argument exceeds its field */
+#define PK_OUT_OF_RANGE 1          /* an argument exceeds its field; a packet to write is not 10
+                                      bytes, or not one of a known kind */
 #define PK_MALFORMED 2             /* frame empty or not of whole segments; lengths don't sum;
                                       no frames; M = 1 on the last frame */
 #define PK_FORMAT_ERROR 3          /* fixed field, fill, LV or padding byte wrong; M = 0 before the
@@ -54,6 +61,7 @@ extern "C" {
 #define PK_NEVER_SENT 16           /* PR acknowledges what was never sent */
 #define PK_RUN_BROKEN 17           /* SN, PS or CH breaks the run while joining */
 
+/* The refusal number of any answer. */
 #define PK_NUMBER(answer) ((uint8_t)((answer) & 0xFF))
 
 /* ---- sequence numbers. SN counts modulo 64; PS and PR count modulo 16. A number that does not fit
@@ -70,10 +78,11 @@ uint8_t pk_packet_next(uint8_t number);
 
 /* Writes a fresh state: nothing sent. Refused with 14 (a wrong length). */
 uint32_t pk_sender_fresh(uint8_t *state, size_t state_len);
-/* 1 if the bytes are a state in good order, else 0. */
+/* 0 if the bytes are a state in good order, else 14. */
 uint32_t pk_sender_in_order(const uint8_t *state, size_t state_len);
 /* Asks for the PS of the next packet to send: bits 8 to 15. Refused with 14, 9. */
 uint32_t pk_sender_send(uint8_t *state, size_t state_len);
+#define PK_SEND_PS(answer) ((uint8_t)((answer) >> 8 & 0xFF))
 /* Takes a received PR. Refused with 14, 1, 16. */
 uint32_t pk_sender_acknowledge(uint8_t *state, size_t state_len, uint8_t pr);
 
@@ -84,14 +93,16 @@ uint32_t pk_sender_acknowledge(uint8_t *state, size_t state_len, uint8_t pr);
 
 /* Writes a fresh state: nothing accepted. Refused with 14 (a wrong length). */
 uint32_t pk_receiver_fresh(uint8_t *state, size_t state_len);
-/* 1 if the bytes are a state in good order, else 0. */
+/* 0 if the bytes are a state in good order, else 14. */
 uint32_t pk_receiver_in_order(const uint8_t *state, size_t state_len);
 /* Takes the PS of a received packet. Bit 8 says that PR is due. Refused with 14, 1, then 12, 10 or
  * 11. */
 uint32_t pk_receiver_receive(uint8_t *state, size_t state_len, uint8_t ps);
+#define PK_RECEIVE_DUE(answer) ((uint8_t)((answer) >> 8 & 1))
 /* The PR to send now, bits 8 to 15; the count of packets not yet told becomes 0. Refused with
  * 14. */
 uint32_t pk_receiver_tell(uint8_t *state, size_t state_len);
+#define PK_TELL_PR(answer) ((uint8_t)((answer) >> 8 & 0xFF))
 
 /* ---- the resequencer. State: [0] NESN, [1] HSNR, [2..9] the held numbers as a word of 64 bits,
  * [10..17] the numbers whose clock runs, the same, [18..145] the 64 tickets, two bytes each. */
@@ -104,32 +115,39 @@ uint32_t pk_receiver_tell(uint8_t *state, size_t state_len);
 #define PK_OLD 2
 #define PK_DUPLICATE 3
 
-#define PK_OUTCOME(answer) ((uint8_t)((answer) >> 8 & 0xFF))
-#define PK_COUNT(answer) ((uint8_t)((answer) >> 16 & 0xFF))
+/* Of pk_resequencer_arrive and pk_resequencer_clock_end: the outcome, and the number of tickets
+ * handed on. */
+#define PK_RESEQUENCER_OUTCOME(answer) ((uint8_t)((answer) >> 8 & 0xFF))
+#define PK_RESEQUENCER_COUNT(answer) ((uint8_t)((answer) >> 16 & 0xFF))
 
 /* Writes a fresh state: NESN 0, nothing held. Refused with 14 (a wrong length). */
 uint32_t pk_resequencer_fresh(uint8_t *state, size_t state_len);
-/* 1 if the bytes are a state in good order, else 0. */
+/* 0 if the bytes are a state in good order, else 14. */
 uint32_t pk_resequencer_in_order(const uint8_t *state, size_t state_len);
-/* A packet arrives. Writes the released tickets to `tickets`, which has 32 places, in order, and 0
- * to its other places. Bits 8 to 15 are the outcome, bits 16 to 23 the number of tickets. Refused
- * with 14, 1. */
+/* A packet arrives. Writes the released tickets to the first 32 places of `tickets`, in order, and
+ * 0 to the others of these 32. Bits 8 to 15 are the outcome, bits 16 to 23 the number of tickets.
+ * Refused with 14, 1, 5 (`tickets` has fewer than 32 places). */
 uint32_t pk_resequencer_arrive(uint8_t *state, size_t state_len, uint16_t *tickets,
                                size_t tickets_len, uint8_t sn, uint16_t ticket);
-/* The clock of a number ends. Writes and answers as an arrival does. Refused with 14, 1, 7. */
+/* The clock of a number ends. Writes and answers as an arrival does. Refused with 14, 1, 5, 7. */
 uint32_t pk_resequencer_clock_end(uint8_t *state, size_t state_len, uint16_t *tickets,
                                   size_t tickets_len, uint8_t sn);
 
-/* ---- frames. A form is one number. Every call refuses an invalid form with 1: a downlink form has
- * 1 to 16 segments, so that 2 and the numbers from 19 are invalid. */
+/* ---- frames. A form is one number: 0 short uplink, 1 to 16 long downlink with that many segments,
+ * 17 long uplink. Every call refuses any other number with 1. */
 
 #define PK_SHORT_UPLINK 0
-#define PK_LONG_UPLINK 1
-#define PK_LONG_DOWNLINK(segments) \
-    ((uint8_t)((segments) >= 1 && (segments) <= 16 ? 2 + (segments) : 2))
+#define PK_LONG_UPLINK 17
+#define PK_NO_FORM 255
+
+/* The form with that many segments, or PK_NO_FORM if they are not 1 to 16. */
+static inline uint8_t pk_long_downlink(unsigned segments)
+{
+    return segments - 1 < 16 ? (uint8_t)segments : (uint8_t)PK_NO_FORM;
+}
 
 /* A packet: [0] its kind, then a byte for each of its fields, in the frame's order. The other bytes
- * are 0 when a packet is read, and ignored when it is written.
+ * are 0 when a packet is read, and must be 0 when it is written.
  *   DATA                [1] M  [2] SN [3] PS [4] PR [5] CH
  *   CLEAR REQUEST       [1] TC [2] SN [3] CH [4] AM [5] AG [6] CC [7] DC [8] S [9] F
  *   CLEAR CONFIRMATION  [1] TC [2] SN [3] CH [4] AM [5] AG */
@@ -141,32 +159,40 @@ uint32_t pk_resequencer_clock_end(uint8_t *state, size_t state_len, uint16_t *ti
 #define PK_CLEAR_CONFIRMATION 2
 
 /* Writes a packet and its user data as one frame to the front of `out`; bytes beyond the frame keep
- * what they held. Bits 8 and up are the frame's length. Refused with 14 (`packet` has not 10
- * bytes), 1 (also for an unknown kind, a flag over 1, and user data with a CONFIRMATION), 13, 5. */
+ * what they held. Bits 8 and up are the frame's length. Refused with 1 (also if `packet` has not 10
+ * bytes, and for an unknown kind, a flag over 1, a byte other than 0 that the kind has no use for,
+ * and user data with a CONFIRMATION), 13, 5. `user` and `out` are not NULL, even with length 0. */
 uint64_t pk_frame_write(uint8_t form, const uint8_t *packet, size_t packet_len, const uint8_t *user,
                         size_t user_len, uint8_t *out, size_t out_len);
-/* Reads a frame into `packet`. Bits 8 to 15 are the index of its user data in the frame, bits 16
- * and up the length of the user data. Refused with 14 (`packet` has not 10 bytes), 1, 2, 3, 13. */
+#define PK_WRITE_BYTES(answer) ((size_t)((answer) >> 8))
+
+/* Reads a frame into the first 10 bytes of `packet`. Bits 8 to 15 are the index of its user data in
+ * the frame: 3 for DATA, 7 for CLEAR REQUEST, and 4 for CLEAR CONFIRMATION, which has no user data.
+ * Bits 16 and up are the length of the user data. Refused with 1, 2, 3, 13, 5 (`packet` has fewer
+ * than 10 bytes). `frame` is not NULL, even with length 0. */
 uint64_t pk_frame_read(uint8_t form, const uint8_t *frame, size_t frame_len, uint8_t *packet,
                        size_t packet_len);
+#define PK_READ_USER_START(answer) ((size_t)((answer) >> 8 & 0xFF))
+#define PK_READ_USER_BYTES(answer) ((size_t)((answer) >> 16))
 
 /* ---- messages of 0 to 4,096 bytes */
-
-#define PK_FRAMES(answer) ((size_t)((answer) >> 8 & 0xFFFFFF)) /* of cutting */
-#define PK_BYTES(answer) ((size_t)((answer) >> 32))            /* of cutting */
 
 /* Cuts a message into DATA frames, written one after the other to `out`, their lengths to
  * `lengths`; places beyond keep what they held. SN and PS count up from those given, PR and CH are
  * the same on all. Bits 8 to 31 are the number of frames, bits 32 and up their bytes in all.
- * Refused with 1, 4, 5. */
+ * Refused with 1, 4, 5. No list is NULL, even with length 0. */
 uint64_t pk_message_cut(uint8_t form, uint8_t sn, uint8_t ps, uint8_t pr, uint8_t ch,
                         const uint8_t *message, size_t message_len, uint8_t *out, size_t out_len,
                         size_t *lengths, size_t lengths_len);
+#define PK_CUT_FRAMES(answer) ((size_t)((answer) >> 8 & 0xFFFFFF))
+#define PK_CUT_BYTES(answer) ((size_t)((answer) >> 32))
+
 /* Joins the DATA frames that `frames` holds one after the other, of these lengths, to the message
  * that they carry. Bits 8 and up are its length. Refused with 1, 2, then frame by frame 2, 3, 13,
- * 3, 17, 2, then 4, 5. */
+ * 3, 17, 2, then 4, 5. No list is NULL, even with length 0. */
 uint64_t pk_message_join(uint8_t form, const size_t *lengths, size_t lengths_len,
                          const uint8_t *frames, size_t frames_len, uint8_t *out, size_t out_len);
+#define PK_JOIN_BYTES(answer) ((size_t)((answer) >> 8))
 
 /* ---- interrogators. Table: for each of the 256 ground addresses two bytes, the set of its codes
  * II as a word of 16 bits. */
@@ -175,27 +201,35 @@ uint64_t pk_message_join(uint8_t form, const size_t *lengths, size_t lengths_len
 #define PK_LOST 256
 #define PK_NO_CODE 0xFFFF /* for `last`: no code was used before */
 
-#define PK_CODE(answer) ((uint8_t)((answer) >> 8 & 0xFF))
-#define PK_CLEARING_CAUSE(answer) ((uint8_t)((answer) >> 16 & 0xFF))
-#define PK_DIAGNOSTIC(answer) ((uint8_t)((answer) >> 24 & 0xFF))
+/* The clearing cause CC and the diagnostic code DC with which a call is cleared if its ground
+ * address has no interrogator (refusal 8). */
+#define PK_NO_INTERROGATOR_CAUSE 141
+#define PK_NO_INTERROGATOR_DIAGNOSTIC 162
 
 /* Writes a table in which no address has a code. Refused with 14 (a wrong length). */
 uint32_t pk_table_empty(uint8_t *table, size_t table_len);
 /* The set of an address's codes, bits 8 to 23. Refused with 14. */
 uint32_t pk_table_codes(const uint8_t *table, size_t table_len, uint8_t address);
+#define PK_CODES_SET(answer) ((uint16_t)((answer) >> 8 & 0xFFFF))
 /* How many interrogators an address has, bits 8 to 15. Refused with 14. */
 uint32_t pk_table_count(const uint8_t *table, size_t table_len, uint8_t address);
+#define PK_COUNT_CODES(answer) ((uint8_t)((answer) >> 8 & 0xFF))
 /* Chooses an interrogator for an address among its codes that have not failed: the last-used one if
  * it is among them, else the lowest. Bits 8 to 15. Refused with 14, 1 (a last-used code over 15
- * other than PK_NO_CODE), 8, 15. With 8 alone, bits 16 to 23 and 24 to 31 are the clearing cause
- * and the diagnostic code with which a call is cleared. */
+ * other than PK_NO_CODE), 8, 15. */
 uint32_t pk_table_choose(const uint8_t *table, size_t table_len, uint8_t address, uint16_t last,
                          uint16_t failed);
-/* Changes a table by a route list. Writes to `lost`, which has 256 places, the addresses that had a
- * code before and have none after, rising, and 0 to its other places; bits 8 and up are their
- * count. Refused with 14, 6. */
+/* Of pk_table_choose and pk_choose. */
+#define PK_CHOOSE_CODE(answer) ((uint8_t)((answer) >> 8 & 0xFF))
+
+/* Changes a table by a route list. Writes to the first 256 places of `lost` the addresses that had
+ * a code before and have none after, rising, and 0 to the others of these 256; bits 8 and up are
+ * their count. Refused with 14, 5 (`lost` has fewer than 256 places), 6. `list` is not NULL, even
+ * with length 0. */
 uint32_t pk_table_update(uint8_t *table, size_t table_len, const uint8_t *list, size_t list_len,
                          uint8_t *lost, size_t lost_len);
+#define PK_UPDATE_LOST(answer) ((size_t)((answer) >> 8))
+
 /* The choice from a set of codes, answered as pk_table_choose does. Refused with 1, 8, 15. */
 uint32_t pk_choose(uint16_t codes, uint16_t last, uint16_t failed);
 

@@ -2,6 +2,14 @@ use crate::answer::{unknown, values};
 use crate::{raw, LinkNumber, PacketNumber, Refusal};
 
 /// The form of a frame: it sets the segment's size and the largest packet.
+///
+/// ```
+/// use pepperknoll::{read_frame, Form, Refusal};
+///
+/// // No form has 17 segments: refused with 1, before anything is said of the frame.
+/// assert_eq!(read_frame(Form::LongDownlink(17), &[]), Err(Refusal::OutOfRange));
+/// assert_eq!(read_frame(Form::LongDownlink(16), &[]), Err(Refusal::Malformed));
+/// ```
 #[derive(Clone, Copy, Debug, PartialEq, Eq, Hash)]
 pub enum Form {
     /// Segments of 7 bytes, packets of at most 28.
@@ -14,14 +22,14 @@ pub enum Form {
 }
 
 impl Form {
-    /// The number by which the library knows the form.
+    /// The number by which the library knows the form; 255 is none and refused by every call.
     #[inline]
     pub(crate) const fn number(self) -> u8 {
         match self {
             Form::ShortUplink => 0,
-            Form::LongUplink => 1,
-            Form::LongDownlink(segments @ 1..=16) => 2 + segments,
-            Form::LongDownlink(_) => 2,
+            Form::LongDownlink(segments @ 1..=16) => segments,
+            Form::LongDownlink(_) => 255,
+            Form::LongUplink => 17,
         }
     }
 }
@@ -78,7 +86,8 @@ pub enum Packet {
     },
 }
 
-/// The bytes in which a packet's fields are lent to the library.
+/// The bytes in which a packet's fields are lent to the library. Those that its kind has no use for
+/// are 0; the library refuses any other value there.
 const PACKET_BYTES: usize = 10;
 
 impl Packet {

@@ -44,7 +44,7 @@ mod window;
 pub use frame::{read_frame, write_frame, Form, Packet};
 pub use message::{cut, join, Cut, Start, LONGEST_MESSAGE};
 pub use number::{LinkNumber, PacketNumber};
-pub use refusal::{ClearingCodes, Refusal};
+pub use refusal::{Clearing, Refusal};
 pub use resequencer::{Outcome, Resequencer, Tickets};
 pub use route::{choose, Lost, Table};
 pub use window::{Receiver, Sender};

@@ -1,6 +1,7 @@
 //! The calls of the C interface as they are, for tests and measurements that need what the safe
-//! calls rule out, such as lists of a wrong length. The header `pepperknoll.h` says what each
-//! does; everyone else uses the safe calls of this crate.
+//! calls rule out, such as states of a wrong length and lists for results that are too short or
+//! longer than needed. The header `pepperknoll.h` says what each does; everyone else uses the safe
+//! calls of this crate.
 //!
 //! # Safety
 //!

@@ -51,13 +51,14 @@ pub enum Refusal {
     RunBroken = 17,
 }
 
-/// The clearing cause (CC) and the diagnostic code (DC) with which a call is cleared.
+/// The two codes with which a call is cleared; [`Refusal::clearing`] gives them. They go into the
+/// fields CC and DC of a [`Packet::ClearRequest`](crate::Packet::ClearRequest).
 #[derive(Clone, Copy, Debug, PartialEq, Eq, Hash)]
-pub struct ClearingCodes {
-    /// Clearing cause.
-    pub cc: u8,
-    /// Diagnostic code.
-    pub dc: u8,
+pub struct Clearing {
+    /// Clearing cause, CC.
+    pub cause: u8,
+    /// Diagnostic code, DC.
+    pub diagnostic: u8,
 }
 
 impl Refusal {
@@ -104,12 +105,29 @@ impl Refusal {
         }
     }
 
-    /// The codes with which a call is cleared that was refused so: there are some for
-    /// [`Refusal::NoInterrogator`] alone.
+    /// The codes with which a call is cleared that was refused so: CC 141 and DC 162 for
+    /// [`Refusal::NoInterrogator`], none for all others. They are constants of the rules; the
+    /// library's answer to a refused call holds the refusal's number and nothing else.
+    ///
+    /// They are meant for a call, that is for a CALL REQUEST; for other packets the rules name no
+    /// codes.
+    ///
+    /// ```
+    /// use pepperknoll::{choose, Clearing, Refusal};
+    ///
+    /// let refusal = choose(0, None, 0).unwrap_err();
+    /// assert_eq!(refusal, Refusal::NoInterrogator);
+    /// let codes = Clearing { cause: 141, diagnostic: 162 };
+    /// assert_eq!(refusal.clearing(), Some(codes));
+    /// assert_eq!(Refusal::AllFailed.clearing(), None);
+    /// ```
     #[inline]
-    pub const fn clearing_codes(self) -> Option<ClearingCodes> {
+    pub const fn clearing(self) -> Option<Clearing> {
         match self {
-            Refusal::NoInterrogator => Some(ClearingCodes { cc: 141, dc: 162 }),
+            Refusal::NoInterrogator => Some(Clearing {
+                cause: 141,
+                diagnostic: 162,
+            }),
             _ => None,
         }
     }
@@ -156,6 +174,16 @@ mod tests {
         for number in 0..=255 {
             let back = Refusal::from_number(number).map(Refusal::number);
             assert_eq!(back, (1..=17).contains(&number).then_some(number));
+        }
+    }
+
+    #[test]
+    fn one_refusal_has_clearing_codes() {
+        for refusal in Refusal::ALL {
+            let codes = refusal
+                .clearing()
+                .map(|codes| (codes.cause, codes.diagnostic));
+            assert_eq!(codes, (refusal.number() == 8).then_some((141, 162)));
         }
     }
 

@@ -67,7 +67,7 @@ impl Resequencer {
     #[inline]
     pub fn in_order(&self) -> bool {
         // SAFETY: the state is lent whole, with its own length.
-        unsafe { raw::pk_resequencer_in_order(self.0.as_ptr(), self.0.len()) == 1 }
+        unsafe { raw::pk_resequencer_in_order(self.0.as_ptr(), self.0.len()) == 0 }
     }
 
     /// The next expected SN, as the state has it.

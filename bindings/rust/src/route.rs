@@ -166,8 +166,8 @@ impl fmt::Debug for Lost {
 /// assert_eq!(choose(0b1010, None, 0b1010), Err(Refusal::AllFailed));
 ///
 /// let refusal = choose(0, None, 0).unwrap_err();
-/// let codes = refusal.clearing_codes().expect("a call is cleared with these");
-/// assert_eq!((codes.cc, codes.dc), (141, 162));
+/// let codes = refusal.clearing().expect("a call is cleared with these");
+/// assert_eq!((codes.cause, codes.diagnostic), (141, 162));
 /// ```
 #[inline]
 pub fn choose(codes: u16, last: Option<u8>, failed: u16) -> Result<u8, Refusal> {

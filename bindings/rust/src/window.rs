@@ -58,7 +58,7 @@ impl Sender {
     #[inline]
     pub fn in_order(&self) -> bool {
         // SAFETY: the state is lent whole, with its own length.
-        unsafe { raw::pk_sender_in_order(self.0.as_ptr(), self.0.len()) == 1 }
+        unsafe { raw::pk_sender_in_order(self.0.as_ptr(), self.0.len()) == 0 }
     }
 
     /// Asks for a PS to send the next packet with. Refused with 14, 9.
@@ -134,7 +134,7 @@ impl Receiver {
     #[inline]
     pub fn in_order(&self) -> bool {
         // SAFETY: the state is lent whole, with its own length.
-        unsafe { raw::pk_receiver_in_order(self.0.as_ptr(), self.0.len()) == 1 }
+        unsafe { raw::pk_receiver_in_order(self.0.as_ptr(), self.0.len()) == 0 }
     }
 
     /// Takes the PS of a packet that came in; says whether a PR is due. Refused with 14, 1, then

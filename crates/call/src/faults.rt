@@ -1,8 +1,8 @@
 // What is wrong with a line that cannot be read. The numbers are larger than any argument and than
 // any line is long, so that a function can answer either; their last digit names the words below.
+use crate::UNREAD;
 use crate::print;
 use crate::text;
-use libc::STDOUT_FILENO;
 
 pub const NO_SUCH_CALL: usize = 100001;
 
@@ -20,13 +20,17 @@ pub const TOO_MANY: usize = 100007;
 
 pub const LINE_TOO_LONG: usize = 100008;
 
-// Prints what is wrong with a line, and with which of its arguments, 0 for none.
-pub fn complain(fault: usize, argument: usize, line: u64) {
-    io::write_all(STDOUT_FILENO, b"line ");
-    io::print_decimal(STDOUT_FILENO, line);
+// Prints what is wrong with a line, and with which of its arguments, 0 for none; and notes that a
+// line could not be read.
+pub fn complain(fault: usize, argument: usize, line: u64, ending: &mut u8) {
+    if *ending < UNREAD {
+        *ending = UNREAD;
+    }
+    print::bytes(b"line ", ending);
+    print::decimal(line, ending);
     if 0 < argument {
-        io::write_all(STDOUT_FILENO, b": argument ");
-        io::print_decimal(STDOUT_FILENO, argument as u64);
+        print::bytes(b": argument ", ending);
+        print::decimal(argument as u64, ending);
     }
     let words = b"1 : no such call\n\
         2 : missing\n\
@@ -36,13 +40,13 @@ pub fn complain(fault: usize, argument: usize, line: u64) {
         6 : list too long\n\
         7 : too many arguments\n\
         8 : longer than 65,535 bytes\n";
-    print_row(words, fault);
+    print_row(words, fault, ending);
 }
 
-fn print_row(words: &[u8], fault: usize) {
+fn print_row(words: &[u8], fault: usize, ending: &mut u8) {
     let name = [text::shown((fault % 10) as u8)];
     let start = text::row(words, &name);
     let end = text::find(words, start, words.len(), b'\n');
-    io::write_all(STDOUT_FILENO, &words[start..end]);
-    print::line_feed();
+    print::bytes(&words[start..end], ending);
+    print::line_feed(ending);
 }

@@ -1,5 +1,10 @@
 // Makes the calls that standard input has, one a line, and prints their answers (docs/CALL.md).
 // Here the input is cut into lines; `line` runs one of them.
+//
+// A proved program has no exit status. So the last thing that it does is to write a mark to
+// descriptor 3, from which tools/run-proved makes a status: `done` if the whole input was read and
+// all was printed, `done unread` if besides a line could not be read, `input` if a read failed,
+// `output` if a write failed. Where descriptor 3 is not open, nothing is written to it.
 ghost use Prim.Native.Nat.{_≤_, _<_};
 ghost use lib.ListN.{length};
 
@@ -22,48 +27,68 @@ type Memory = [u8; 8192];
 // and `c` have.
 type Values = [usize; 13];
 
+// What went wrong: a line could not be read; a read or a write failed, after which nothing is read
+// or printed.
+const UNREAD: u8 = 1;
+
+const FAILED: u8 = 2;
+
 // The input has twice the room of what is kept of a line, so that there is always some to read to.
 fn main() {
     let mut input = [0; 131072];
-    read_all(&mut input);
+    let mut ending = 0;
+    read_all(&mut input, &mut ending);
+    if ending == 0 {
+        print::mark(b"done\n");
+    } else if ending == UNREAD {
+        print::mark(b"done unread\n");
+    }
 }
 
 // Reads to the end of the input, and runs each line once it is whole: the first `kept` bytes of the
 // input are a line that is not. A proved loop has to end, and nothing says that the input does: the
-// reads are counted down from 2^64 - 1. Where nothing came, or a read failed, the input has ended.
-fn read_all(input: &mut [u8]) {
+// reads are counted down from 2^64 - 1. `ending` is 0 at first, and becomes what went wrong.
+fn read_all(input: &mut [u8], ending: &mut u8) {
     let mut lines = 0;
     let mut kept = 0;
     let mut reads = u64::MAX;
     while 0 < reads {
-        let came = read_some(&mut input[kept..]);
+        let came = read_some(&mut input[kept..], ending);
         let filled = kept + came;
         if came == 0 {
-            run_last(&input[0..filled], lines);
+            run_last(&input[0..filled], lines, ending);
             return;
         }
-        let start = run_lines(&input[0..filled], &mut lines);
+        let start = run_lines(&input[0..filled], &mut lines, ending);
         kept = keep(input, start, filled);
         reads -= 1;
     }
 }
 
-fn read_some(input: &mut [u8]) -> usize
+// Reads once: 0 bytes at the end of the input, if the read failed, and if something failed before.
+fn read_some(input: &mut [u8], ending: &mut u8) -> usize
     ensures { λ r. ⌜ r ≤ length (now (input .entry)) ⌝ }
 {
-    let got = libc::read(STDIN_FILENO, input);
-    io::count(got, input)
+    if *ending < FAILED {
+        let got = libc::read(STDIN_FILENO, input);
+        if got < 0 {
+            print::mark(b"input\n");
+            *ending = FAILED;
+        }
+        return io::count(got, input);
+    }
+    0
 }
 
 // Runs the lines that have their line feed, and answers where the rest begins.
-fn run_lines(input: &[u8], lines: &mut u64) -> usize
+fn run_lines(input: &[u8], lines: &mut u64, ending: &mut u8) -> usize
     ensures { λ r. ⌜ r ≤ length (now (input .entry)) ⌝ }
 {
     let mut start = 0;
     let mut end = text::find(input, 0, input.len(), b'\n');
     while end < input.len() {
         *lines = std::num::wrapping_add_u64(*lines, 1);
-        line::run(&input[start..end], *lines);
+        line::run(&input[start..end], *lines, ending);
         start = end + 1;
         end = text::find(input, start, input.len(), b'\n');
     }
@@ -71,9 +96,9 @@ fn run_lines(input: &[u8], lines: &mut u64) -> usize
 }
 
 // A last line without its line feed, if there is one.
-fn run_last(input: &[u8], lines: u64) {
+fn run_last(input: &[u8], lines: u64, ending: &mut u8) {
     if 0 < input.len() {
-        line::run(input, std::num::wrapping_add_u64(lines, 1));
+        line::run(input, std::num::wrapping_add_u64(lines, 1), ending);
     }
 }
 

@@ -3,11 +3,11 @@
 // describes the calls to C programmers. A list is lent as a pointer and a length.
 //
 // A call answers one number. Its low 8 bits are the refusal number of document 01, 0 for done; the
-// bits above them hold the values that the call's comment names, which are 0 after a refusal,
-// except for the two clearing codes of a choice. A refused call leaves every lent byte as it was.
-// "Refused with 14, 1" means that 14 is checked before 1. Refusal 14 is given for a state that is
-// not in good order, and for a list of a fixed length (a state, a table, a packet, the places for
-// tickets or for a report) that has another length.
+// bits above them hold the values that the call's comment names, which are 0 after a refusal. A
+// refused call leaves every lent byte as it was. "Refused with 14, 1" means that 14 is checked
+// before 1. Refusal 14 is given for a state or a table that has another length or is not in good
+// order, and for nothing else. A list for results that has fewer places than the call writes is
+// refused with 5; places past those keep what they held.
 ghost use mathlib.Core.Path.{_≡_};
 ghost use lib.ListN.{length};
 ghost use Rattle.sequence.specs.Modular.{distance, next};
@@ -73,7 +73,7 @@ pub extern "C" fn pk_sender_fresh(state: &mut [u8]) -> u32
     window_bytes::sender_fresh(state)
 }
 
-// Answers 1 if the bytes are a sending end in good order, else 0; this is no refusal number.
+// Answers 0 if the bytes are a sending end in good order, else 14. There is no value.
 #[no_mangle]
 pub extern "C" fn pk_sender_in_order(state: &[u8]) -> u32
     ensures { λ r. ⌜ r ≡ senderOrderAnswer (now (state .entry)) ⌝ }
@@ -112,7 +112,7 @@ pub extern "C" fn pk_receiver_fresh(state: &mut [u8]) -> u32
     window_bytes::receiver_fresh(state)
 }
 
-// Answers 1 if the bytes are a receiving end in good order, else 0; this is no refusal number.
+// Answers 0 if the bytes are a receiving end in good order, else 14. There is no value.
 #[no_mangle]
 pub extern "C" fn pk_receiver_in_order(state: &[u8]) -> u32
     ensures { λ r. ⌜ r ≡ receiverOrderAnswer (now (state .entry)) ⌝ }
@@ -152,7 +152,7 @@ pub extern "C" fn pk_resequencer_fresh(state: &mut [u8]) -> u32
     resequencer_bytes::fresh(state)
 }
 
-// Answers 1 if the bytes are a state in good order, else 0; this is no refusal number.
+// Answers 0 if the bytes are a state in good order, else 14. There is no value.
 #[no_mangle]
 pub extern "C" fn pk_resequencer_in_order(state: &[u8]) -> u32
     ensures { λ r. ⌜ r ≡ orderAnswer (now (state .entry)) ⌝ }
@@ -162,8 +162,8 @@ pub extern "C" fn pk_resequencer_in_order(state: &[u8]) -> u32
 
 // The packet with the number `sn` arrives; `ticket` is what the caller knows it by. Bits 8 to 15
 // say what became of it: 0 held, 1 handed on, 2 old, 3 duplicate. Bits 16 to 23 are the number of
-// tickets handed on; they are written to `tickets` in order, and 0 to the other places. Refused
-// with 14, 1.
+// tickets handed on; they are written to the first 32 places of `tickets` in order, and 0 to the
+// others of these 32. Refused with 14, 1, 5 (fewer than 32 places).
 #[no_mangle]
 pub extern "C" fn pk_resequencer_arrive(
     state: &mut [u8],
@@ -179,7 +179,7 @@ pub extern "C" fn pk_resequencer_arrive(
 }
 
 // The clock of the number `sn` ends. Answers and writes as an arrival that hands on does. Refused
-// with 14, 1, 7.
+// with 14, 1, 5 (fewer than 32 places), 7.
 #[no_mangle]
 pub extern "C" fn pk_resequencer_clock_end(state: &mut [u8], tickets: &mut [u16], sn: u8) -> u32
     ensures { λ r. ⌜ r ≡ clockEndAnswer (now (state .entry)) (length (now (tickets .entry))) sn ⌝ }
@@ -189,13 +189,13 @@ pub extern "C" fn pk_resequencer_clock_end(state: &mut [u8], tickets: &mut [u16]
     resequencer_bytes::clock_end(state, tickets, sn)
 }
 
-// ---- frames. A form is a number: 0 short uplink, 1 long uplink, 2 + n long downlink with n
-// segments, where n is 1 to 16. A packet is 10 bytes: its kind, then
-// a byte for each field.
+// ---- frames. A form is a number: 0 short uplink, 1 to 16 long downlink with that many segments,
+// 17 long uplink. A packet is 10 bytes: its kind, then a byte for each field, then zero bytes.
 
 // Writes a packet and its user data as one frame to the front of `out`; bytes beyond the frame keep
-// what they held. Bits 8 and up are the frame's length. Refused with 14, 1 (a kind, a form or a
-// field that is not valid, or user data with a CLEAR CONFIRMATION), 13, 5.
+// what they held. Bits 8 and up are the frame's length. Refused with 1 (a packet that has not 10
+// bytes, a kind, a form or a field that is not valid, a byte that the kind has no use for and that
+// is not 0, or user data with a CLEAR CONFIRMATION), 13, 5.
 #[no_mangle]
 pub extern "C" fn pk_frame_write(form: u8, packet: &[u8], user: &[u8], out: &mut [u8]) -> u64
     ensures { λ r. ⌜ r ≡ writeAnswer form (now (packet .entry)) (length (now (user .entry))) (length (now (out .entry))) ⌝ }
@@ -204,8 +204,9 @@ pub extern "C" fn pk_frame_write(form: u8, packet: &[u8], user: &[u8], out: &mut
     frame_bytes::write(form, packet, user, out)
 }
 
-// Reads a frame and writes its packet to `packet`. Bits 8 to 15 are the index in `frame` where the
-// user data starts, bits 16 and up its length. Refused with 14, 1 (the form), 2, 3, 13.
+// Reads a frame and writes its packet to the first 10 bytes of `packet`. Bits 8 to 15 are the index
+// in `frame` where the user data starts, bits 16 and up its length. Refused with 1 (the form), 2,
+// 3, 13, 5 (fewer than 10 bytes).
 #[no_mangle]
 pub extern "C" fn pk_frame_read(form: u8, frame: &[u8], packet: &mut [u8]) -> u64
     ensures { λ r. ⌜ r ≡ readAnswer form (now (frame .entry)) (length (now (packet .entry))) ⌝ }
@@ -283,7 +284,7 @@ pub extern "C" fn pk_table_count(table: &[u8], address: u8) -> u32
 // Chooses an interrogator for an address: the last-used code `last` if the address has it and it is
 // not in the set `failed`, else the lowest code of the address that is not in `failed`. `last` is
 // 65535 if there is none. Bits 8 to 15 are the code. Refused with 14, 1 (`last` is over 15 and not
-// 65535), 8, 15. With 8, bits 16 to 23 and 24 to 31 are the clearing codes CC and DC.
+// 65535), 8, 15.
 #[no_mangle]
 pub extern "C" fn pk_table_choose(table: &[u8], address: u8, last: u16, failed: u16) -> u32
     ensures { λ r. ⌜ r ≡ chooseAnswer (now (table .entry)) address last failed ⌝ }
@@ -292,8 +293,8 @@ pub extern "C" fn pk_table_choose(table: &[u8], address: u8, last: u16, failed: 
 }
 
 // Changes a table by a route list. The addresses that had a code before and have none after are
-// written to `lost`, which has 256 places, rising, and 0 to the other places; bits 8 and up are
-// their number. Refused with 14, 6.
+// written to the first 256 places of `lost`, rising, and 0 to the others of these 256; bits 8 and
+// up are their number. Refused with 14, 5 (fewer than 256 places), 6.
 #[no_mangle]
 pub extern "C" fn pk_table_update(table: &mut [u8], list: &[u8], lost: &mut [u8]) -> u32
     ensures { λ r. ⌜ r ≡ updateAnswer (now (table .entry)) (now (list .entry)) (length (now (lost .entry))) ⌝ }

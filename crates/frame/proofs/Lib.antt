@@ -6,3 +6,4 @@ pub mod Readings
 pub mod Contents
 pub mod Table
 pub mod Frames
+pub mod Numbers

@@ -2,14 +2,18 @@
 // output, and read (document 01, "Forms and frames").
 ghost use mathlib.Core.Path.{_≡_};
 ghost use Prim.Native.Nat.{_^_, _<_, _≤_};
-ghost use lib.ListN.{length};
+ghost use lib.ListN.{length, getD};
+ghost use Rattle.refusal.specs.Numbers.{verdictNumber, valueBy};
 ghost use Rattle.frame_fields.specs.Rows.{numberIn};
+ghost use Rattle.frame_form.specs.Forms.{segOf};
+ghost use Rattle.frame_form.specs.Segments.{frameLength};
+ghost use Rattle.frame_codec.specs.Writing.{writtenNumber, writtenBytes};
 ghost use Rattle.frame_codec.specs.Reading.{shapeVerdict};
 ghost use Rattle.little.specs.Little.{flag};
 ghost use Rattle.frame.specs.Packets.{kinds, asData, snOf};
 ghost use Rattle.frame.specs.Parts.{FitsTested, headerOf, wholeHeader, packetAt, HeaderIn};
-ghost use Rattle.frame.specs.Writing.{writeOf, writeOutput};
-ghost use Rattle.frame.specs.Reading.{readNumber, firstNamed, readAs, readOf, partOf};
+ghost use Rattle.frame.specs.Writing.{lengthOf, frameVerdict, writeOf, writeOutput};
+ghost use Rattle.frame.specs.Reading.{readNumber, firstNamed, readAs, readOf, ReadSays, partOf};
 use frame_codec::Extent;
 use frame_codec::Header;
 use frame_codec::SeenHeader;
@@ -327,6 +331,8 @@ impl Packet {
 pub fn write_data(form: Form, packet: Data, user: &[u8], out: &mut [u8]) -> Written
     ensures { λ r. ⌜ r ≡ writeOf form (Packet.Data packet) (length (now (user .entry))) (length (now (out .entry))) ⌝ }
     ensures written { λ _. ⌜ now (out .exit) ≡ writeOutput form (Packet.Data packet) (now (user .entry)) (now (out .entry)) ⌝ }
+    ensures number { λ r. ⌜ writtenNumber r ≡ verdictNumber (frameVerdict form (Packet.Data packet) (length (now (user .entry))) (length (now (out .entry)))) ⌝ }
+    ensures value { λ r. ⌜ writtenBytes r ≡ valueBy (frameVerdict form (Packet.Data packet) (length (now (user .entry))) (length (now (out .entry)))) (frameLength (segOf form) (lengthOf (Packet.Data packet) (length (now (user .entry))))) ⌝ }
 {
     frame_codec::put(form, packet.whole_header(form, user.len()), user, out)
 }
@@ -337,6 +343,8 @@ pub fn write_data(form: Form, packet: Data, user: &[u8], out: &mut [u8]) -> Writ
 pub fn write_frame(form: Form, packet: Packet, user: &[u8], out: &mut [u8]) -> Written
     ensures { λ r. ⌜ r ≡ writeOf form packet (length (now (user .entry))) (length (now (out .entry))) ⌝ }
     ensures written { λ _. ⌜ now (out .exit) ≡ writeOutput form packet (now (user .entry)) (now (out .entry)) ⌝ }
+    ensures number { λ r. ⌜ writtenNumber r ≡ verdictNumber (frameVerdict form packet (length (now (user .entry))) (length (now (out .entry)))) ⌝ }
+    ensures value { λ r. ⌜ writtenBytes r ≡ valueBy (frameVerdict form packet (length (now (user .entry))) (length (now (out .entry)))) (frameLength (segOf form) (lengthOf packet (length (now (user .entry))))) ⌝ }
 {
     match packet {
         Packet::Data(d) => frame_codec::put(form, d.whole_header(form, user.len()), user, out),
@@ -510,6 +518,7 @@ fn read_whole_data(form: Form, frame: &[u8]) -> Read
 // `read_frame`.
 pub fn read_data(form: Form, frame: &[u8]) -> Read
     ensures { λ r. ⌜ r ≡ readAs (Found.Known Kind.Data) form (now (frame .entry)) ⌝ }
+    ensures says { λ r. ⌜ ReadSays (Found.Known Kind.Data) form (now (frame .entry)) r ⌝ }
 {
     let shape = frame_codec::check_shape(form, frame.len());
     match shape {
@@ -522,6 +531,7 @@ pub fn read_data(form: Form, frame: &[u8]) -> Read
 // that the frame has at least the 7 bytes of the longest header.
 pub fn read_frame(form: Form, frame: &[u8]) -> Read
     ensures { λ r. ⌜ r ≡ readOf form (now (frame .entry)) ⌝ }
+    ensures says { λ r. ⌜ ReadSays (firstNamed kinds (getD (now (frame .entry)) 0 0)) form (now (frame .entry)) r ⌝ }
 {
     let shape = frame_codec::check_shape(form, frame.len());
     match shape {

@@ -1,5 +1,6 @@
--- Claims about packets in bytes: a packet stored in its ten bytes comes back the same, and a
--- refusal writes nothing (document 01, "Refusal numbers"). proofs/Claims.antt proves them.
+-- Claims about packets in bytes: a packet stored in its ten bytes comes back the same, ten bytes
+-- that are taken as a packet are those of that packet, and a refusal writes nothing (document 01,
+-- "Refusal numbers"). proofs/Claims.antt proves them.
 -- Assumes nothing.
 use mathlib.Core.Path.{_≡_}
 use mathlib.Core.Bool.{true}
@@ -7,21 +8,27 @@ use mathlib.Core.Logic.{_≢_}
 use mathlib.Core.List.{List}
 use Prim.Native.Nat.{ℕ, _%_, _/_}
 use lib.ListN.{length, getD, drop}
+use Rattle.frame.specs.declared.Kind.{Kind}
 use Rattle.frame.specs.declared.Packet.{Packet}
 use Rattle.frame.specs.declared.Found.the-variants.{Known}
 use Rattle.frame.specs.Packets.{kindOf, packetOf}
-use Rattle.frame_bytes.specs.Stored.{packetBytes, kindAt, flagsFit, writeAnswer, writeBytes, readAnswer, readBytes}
+use Rattle.frame_bytes.specs.Stored.{packetBytes, kindAt, flagsFit, unusedZero, writeAnswer, writeBytes, readAnswer, readBytes}
 
--- the ten bytes of the packet p are ten, name its kind, have flags of 0 or 1, and give p again
+-- the ten bytes of the packet p are ten, name its kind, have flags of 0 or 1 and 0 in the bytes
+-- that the kind has no use for, and give p again
 pub record PacketBack (p : Packet) : Type 0 where
   pub ten : length (packetBytes p) ≡ 10
   pub kind : kindAt (getD (packetBytes p) 0 0) ≡ Known (kindOf p)
   pub flags : flagsFit (kindOf p) (drop 1 (packetBytes p)) ≡ true
+  pub unused : unusedZero (kindOf p) (drop 1 (packetBytes p)) ≡ true
   pub back : packetOf (kindOf p) (drop 1 (packetBytes p)) ≡ p
 
--- this holds for every packet
-abbrev pub RoundTrips : Type 0
-RoundTrips = (p : Packet) → PacketBack p
+-- this holds for every packet; and ten bytes that `write` takes as a packet of kind k are the bytes
+-- of that packet
+pub record RoundTrips : Type 0 where
+  pub packet-back : (p : Packet) → PacketBack p
+  pub bytes-back : (bytes : List ℕ) (k : Kind) → length bytes ≡ 10 → kindAt (getD bytes 0 0) ≡ Known k
+      → flagsFit k (drop 1 bytes) ≡ true → unusedZero k (drop 1 bytes) ≡ true → packetBytes (packetOf k (drop 1 bytes)) ≡ bytes
 
 -- "A refusal returns its number, counts of 0 .. no lent byte changes": where the lowest byte of an
 -- answer is not 0, every lent byte is as it was, and the rest of the answer is 0

@@ -3,14 +3,16 @@
 -- two definitions, its answer and what the lent bytes hold afterwards.
 -- Assumes nothing.
 use mathlib.Core.Bool.{Bool, true, cond, _&&_}
-use mathlib.Core.List.{List, _∷_, _++_}
+use mathlib.Core.List.{List, [], _∷_, _++_}
 use Prim.Native.Nat.{ℕ, _+_, _-_, _*_}
 use lib.Dec.{leb, eqb}
 use lib.ListN.{length, getD, drop, replicate}
-use Rattle.refusal.specs.declared.Refusal.the-variants.{OutOfRange, NotInOrder}
+use Rattle.refusal.specs.declared.Refusal.the-variants.{OutOfRange, OutputTooShort}
 use Rattle.refusal.specs.Numbers.{numberOf}
+use Rattle.lists.specs.Lists.{over}
 use Rattle.frame_form.specs.Forms.{formAt}
 use Rattle.frame_codec.specs.declared.Written.{Written}
+use Rattle.frame_codec.specs.Frames.{allZero}
 use Rattle.frame_codec.specs.Writing.{writtenNumber, writtenBytes}
 use Rattle.frame.specs.declared.Packet.{Packet}
 use Rattle.frame.specs.declared.Kind.{Kind}
@@ -47,8 +49,17 @@ flagsFit Data values = leb (getD values 0 0) 1
 flagsFit ClearRequest values = leb (getD values 7 0) 1 && leb (getD values 8 0) 1
 flagsFit ClearConfirmation values = true
 
--- ---- writing: 14 if the packet is not ten bytes long; then 1, "an argument exceeds its field",
--- for an unknown kind or a flag over 1; then as `frame` writes.
+-- how many values a packet of a kind has
+abbrev pub valueCount : Kind → ℕ
+valueCount k = length (valuesOf (packetOf k []))
+
+-- whether the bytes that the kind has no use for are 0, so that they are read back as they were
+abbrev pub unusedZero : Kind → List ℕ → Bool
+unusedZero k values = allZero (drop (valueCount k) values)
+
+-- ---- writing: 1, "an argument exceeds its field", if the packet is not ten bytes long, for an
+-- unknown kind, a flag over 1 or a byte other than 0 that the kind has no use for; then as `frame`
+-- writes: 1, 13, 5.
 -- `user` is the user data or its length, `room` the length of the lent output
 
 -- a writer's answer as one number: the refusal number plus 256 times the bytes written, which are 0
@@ -58,41 +69,42 @@ writtenAnswer w = writtenNumber w + 256 * writtenBytes w
 
 -- the answer, once the kind is known or not
 abbrev pub writeAnswerBy : Found → ℕ → List ℕ → ℕ → ℕ → ℕ
-writeAnswerBy (Known k) form values user room = cond (flagsFit k values) (writtenAnswer (writeOf (formAt form) (packetOf k values) user room)) (numberOf OutOfRange)
+writeAnswerBy (Known k) form values user room = cond (flagsFit k values && unusedZero k values) (writtenAnswer (writeOf (formAt form) (packetOf k values) user room)) (numberOf OutOfRange)
 writeAnswerBy Unknown form values user room = numberOf OutOfRange
 
 -- the answer of `write`; `bytes` is the packet
 unfoldable pub writeAnswer : ℕ → List ℕ → ℕ → ℕ → ℕ
 writeAnswer form bytes user room =
-    cond (eqb (length bytes) 10) (writeAnswerBy (kindAt (getD bytes 0 0)) form (drop 1 bytes) user room) (numberOf NotInOrder)
+    cond (eqb (length bytes) 10) (writeAnswerBy (kindAt (getD bytes 0 0)) form (drop 1 bytes) user room) (numberOf OutOfRange)
 
 -- the lent output afterwards, once the kind is known or not
 abbrev pub writeBytesBy : Found → ℕ → List ℕ → List ℕ → List ℕ → List ℕ
-writeBytesBy (Known k) form values user out = cond (flagsFit k values) (writeOutput (formAt form) (packetOf k values) user out) out
+writeBytesBy (Known k) form values user out = cond (flagsFit k values && unusedZero k values) (writeOutput (formAt form) (packetOf k values) user out) out
 writeBytesBy Unknown form values user out = out
 
 -- the lent output after `write`
 unfoldable pub writeBytes : ℕ → List ℕ → List ℕ → List ℕ → List ℕ
 writeBytes form bytes user out = cond (eqb (length bytes) 10) (writeBytesBy (kindAt (getD bytes 0 0)) form (drop 1 bytes) user out) out
 
--- ---- reading: 14 if the lent bytes for the packet are not ten; then as `frame` reads. `places` is
--- the number of these bytes
+-- ---- reading: as `frame` reads, 1, 2, 3, 13; then 5 if there are fewer than ten lent bytes for
+-- the packet. `places` is the number of these bytes
 
 -- a reader's answer as one number: the refusal number; or 256 times the index where the user data
 -- starts plus 65,536 times its length
-abbrev pub readAnswerBy : Read → ℕ
-readAnswerBy (PacketRead p user) = 256 * (user .at + 256 * user .len)
-readAnswerBy (Refused why) = numberOf why
+abbrev pub readAnswerBy : Read → ℕ → ℕ
+readAnswerBy (PacketRead p user) places = cond (leb 10 places) (256 * (user .at + 256 * user .len)) (numberOf OutputTooShort)
+readAnswerBy (Refused why) places = numberOf why
 
 -- the answer of `read`
 unfoldable pub readAnswer : ℕ → List ℕ → ℕ → ℕ
-readAnswer form frame places = cond (eqb places 10) (readAnswerBy (readOf (formAt form) frame)) (numberOf NotInOrder)
+readAnswer form frame places = readAnswerBy (readOf (formAt form) frame) places
 
--- the lent bytes afterwards, from the reader's answer: the packet, or what they held
+-- the lent bytes afterwards, from the reader's answer: the packet in the first ten, and past them
+-- what they held; a refusal leaves all as they were
 abbrev pub readBytesBy : Read → List ℕ → List ℕ
-readBytesBy (PacketRead p user) bytes = packetBytes p
+readBytesBy (PacketRead p user) bytes = cond (leb 10 (length bytes)) (over (packetBytes p) bytes) bytes
 readBytesBy (Refused why) bytes = bytes
 
 -- the lent bytes after `read`
 unfoldable pub readBytes : ℕ → List ℕ → List ℕ → List ℕ
-readBytes form frame bytes = cond (eqb (length bytes) 10) (readBytesBy (readOf (formAt form) frame) bytes) bytes
+readBytes form frame bytes = readBytesBy (readOf (formAt form) frame) bytes

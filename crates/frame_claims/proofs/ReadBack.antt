@@ -36,19 +36,23 @@ written-is-read form p user out n e =
       data-kept = ap (λ (f : List ℕ). partOf f (placeOf p (length user))) front ∙ frame-user form p user;
     }
 
+-- the user data of a frame that reads is as long as its place says
+pub part-length : (form : Form) (frame : List ℕ) (p : Packet) (place : UserData) → readOf form frame ≡ PacketRead p place → length (partOf frame place) ≡ place .len
+part-length form frame p place e =
+    length-take-le (place .len) (drop (place .at) frame) (simp length-drop (omega (arith, reads-frame form frame p place e .within-frame)))
+
 read-is-written : (form : Form) (frame : List ℕ) (p : Packet) (place : UserData) (out : List ℕ)
     → AreBytes frame → readOf form frame ≡ PacketRead p place → length frame ≤ length out → ReadIsWritten form frame p place out
 unfolding writeOf
 read-is-written form frame p place out bytes e room =
     let f = reads-frame form frame p place e in
     let user = partOf frame place in
-    let len : length user ≡ place .len = length-take-le (place .len) (drop (place .at) frame) (simp length-drop (omega (arith, f .within-frame))) in
     let v : frameVerdict form p (place .len) (length out) ≡ Done =
     accepts form p (place .len) (length out) (record { good = f .good; fit = f .fit; most = f .most; room-enough = omega (arith, f .fills, room) }) in
     record {
       answer = ap (λ (x : Verdict). writtenBy x (frameLength (segOf form) (lengthOf p (place .len)))) v ∙ ap WrittenDone (f .fills);
       bytes =
-          output-is form p user out (ap (λ (x : ℕ). frameVerdict form p x (length out)) len ∙ v)
+          output-is form p user out (ap (λ (x : ℕ). frameVerdict form p x (length out)) (part-length form frame p place e) ∙ v)
           ∙ ap (λ (x : List ℕ). x ++ drop (length x) out) (f .again bytes);
     }
 

@@ -1,3 +1,4 @@
 -- The claims about frames written and read.
 pub mod ReadBack
 pub mod Refusing
+pub mod Bytes

@@ -2,3 +2,4 @@
 pub mod Writing
 pub mod Reading
 pub mod Frames
+pub mod Numbers

@@ -10,7 +10,7 @@ use lib.ListN.{length, drop}
 use Rattle.refusal.specs.declared.Refusal.the-variants.{OutOfRange, Malformed, FormatError, PacketTooLong}
 use Rattle.refusal.specs.declared.Verdict.{Verdict}
 use Rattle.refusal.specs.declared.Verdict.the-variants.{Done, Refused}
-use Rattle.refusal.specs.Numbers.{check, andThen}
+use Rattle.refusal.specs.Numbers.{numberOf, check, andThen}
 use Rattle.frame_form.specs.declared.Form.{Form}
 use Rattle.frame_codec.specs.declared.Extent.{Extent}
 use Rattle.frame_codec.specs.declared.Extent.the-variants.{ByLv, Exactly}
@@ -56,6 +56,16 @@ contentVerdict seg most frame seen =
 -- all checks of reading, in the order 1, 2, 3, 13
 unfoldable pub readVerdict : Form → List ℕ → SeenHeader → Verdict
 readVerdict form frame seen = andThen (shapeVerdict form (length frame)) (contentVerdict (segOf form) (mostOf form) frame seen)
+
+-- the refusal number of that answer; 0 is done
+abbrev pub userLengthNumber : UserLength → ℕ
+userLengthNumber (Bytes n) = 0
+userLengthNumber (NotRead why) = numberOf why
+
+-- the length of the user data; a refusal returns "counts of 0"
+abbrev pub userLengthBytes : UserLength → ℕ
+userLengthBytes (Bytes n) = n
+userLengthBytes (NotRead why) = 0
 
 -- the answer of reading, from the verdict of the checks and the length n of the user data
 abbrev pub userLengthBy : Verdict → ℕ → UserLength

@@ -8,12 +8,13 @@ ghost use mathlib.Core.List.{_++_};
 ghost use Prim.Native.Nat.{_+_, _-_, _%_, _≤_};
 ghost use lib.ListN.{length, take, drop, replicate};
 ghost use lib.Seq.{paste};
+ghost use Rattle.refusal.specs.Numbers.{verdictNumber, valueBy};
 ghost use Rattle.frame_form.specs.Forms.{segOf, mostOf};
-ghost use Rattle.frame_form.specs.Segments.{padding};
+ghost use Rattle.frame_form.specs.Segments.{padding, frameLength};
 ghost use Rattle.frame_fields.specs.Rows.{bytesOf};
 ghost use Rattle.frame_codec.specs.Frames.{allZero};
-ghost use Rattle.frame_codec.specs.Writing.{writtenNumber, writeVerdict, putOf, putOutput};
-ghost use Rattle.frame_codec.specs.Reading.{packetLength, lengthRight, shapeVerdict, contentVerdict, userLengthBy, userLengthOf};
+ghost use Rattle.frame_codec.specs.Writing.{writtenNumber, writtenBytes, writeVerdict, putVerdict, putOf, putOutput};
+ghost use Rattle.frame_codec.specs.Reading.{packetLength, lengthRight, shapeVerdict, contentVerdict, readVerdict, userLengthNumber, userLengthBytes, userLengthBy, userLengthOf};
 use frame_form::Form;
 use refusal::Refusal;
 use refusal::Verdict;
@@ -153,6 +154,8 @@ fn check_put(form: Form, fits: bool, n: usize, pad: usize, room: usize) -> Verdi
 pub fn put(form: Form, head: Header, user: &[u8], out: &mut [u8]) -> Written
     ensures { λ r. ⌜ r ≡ putOf form head (length (now (user .entry))) (length (now (out .entry))) ⌝ }
     ensures { λ _. ⌜ now (out .exit) ≡ putOutput form head (now (user .entry)) (now (out .entry)) ⌝ }
+    ensures number { λ r. ⌜ writtenNumber r ≡ verdictNumber (putVerdict form head (length (now (user .entry))) (length (now (out .entry)))) ⌝ }
+    ensures value { λ r. ⌜ writtenBytes r ≡ valueBy (putVerdict form head (length (now (user .entry))) (length (now (out .entry)))) (frameLength (segOf form) (head .size + length (now (user .entry)))) ⌝ }
 {
     let size = head.size as usize;
     let n = size + user.len();
@@ -171,6 +174,7 @@ pub fn put(form: Form, head: Header, user: &[u8], out: &mut [u8]) -> Written
 // For `frame`, which needs a whole segment before it can read a header.
 pub fn check_shape(form: Form, len: usize) -> Verdict
     ensures { λ r. ⌜ r ≡ shapeVerdict form len ⌝ }
+    ensures number { λ r. ⌜ verdictNumber r ≡ verdictNumber (shapeVerdict form len) ⌝ }
 {
     if form.is_valid() {
         if form.is_whole(len) {
@@ -248,6 +252,8 @@ fn content_length(form: Form, frame: &[u8], seen: SeenHeader) -> UserLength
 // 13. For `frame`, which reads the header.
 pub fn user_length(form: Form, frame: &[u8], seen: SeenHeader) -> UserLength
     ensures { λ r. ⌜ r ≡ userLengthOf form (now (frame .entry)) seen ⌝ }
+    ensures number { λ r. ⌜ userLengthNumber r ≡ verdictNumber (readVerdict form (now (frame .entry)) seen) ⌝ }
+    ensures value { λ r. ⌜ userLengthBytes r ≡ valueBy (readVerdict form (now (frame .entry)) seen) (packetLength (seen .extent) (segOf form) (length (now (frame .entry))) - seen .size) ⌝ }
 {
     let verdict = check_shape(form, frame.len());
     match verdict {

@@ -70,10 +70,10 @@ pub at-short : (n : ℕ) → n ≡ 0 → formAt n ≡ ShortUplink
 unfolding formAt
 at-short n e = rw (eq-eqb n 0 e)
 
-pub at-long : (n : ℕ) → (n ≡ 0 → ⊥) → n ≡ 1 → formAt n ≡ LongUplink
+pub at-long : (n : ℕ) → (n ≡ 0 → ⊥) → n ≡ 17 → formAt n ≡ LongUplink
 unfolding formAt
-at-long n z e = rw (ne-eqb n 0 z, eq-eqb n 1 e)
+at-long n z e = rw (ne-eqb n 0 z, eq-eqb n 17 e)
 
-pub at-downlink : (n : ℕ) → (n ≡ 0 → ⊥) → (n ≡ 1 → ⊥) → formAt n ≡ LongDownlink (n - 2)
+pub at-downlink : (n : ℕ) → (n ≡ 0 → ⊥) → (n ≡ 17 → ⊥) → formAt n ≡ LongDownlink n
 unfolding formAt
-at-downlink n z o = rw (ne-eqb n 0 z, ne-eqb n 1 o)
+at-downlink n z o = rw (ne-eqb n 0 z, ne-eqb n 17 o)

@@ -1,7 +1,8 @@
 -- The forms of frames and their sizes: document 01, "Forms and frames", first paragraph.
 -- Assumes nothing.
-use mathlib.Core.Bool.{Bool, true, cond, _&&_}
-use Prim.Native.Nat.{ℕ, _-_, _*_}
+use mathlib.Core.Path.{_≡_}
+use mathlib.Core.Bool.{Bool, true, false, cond, _&&_}
+use Prim.Native.Nat.{ℕ, _*_, _≤_, _<_}
 use lib.Dec.{leb, eqb}
 use Rattle.frame_form.specs.declared.Form.{Form}
 use Rattle.frame_form.specs.declared.Form.the-variants.{ShortUplink, LongUplink, LongDownlink}
@@ -25,8 +26,20 @@ formValid ShortUplink = true
 formValid LongUplink = true
 formValid (LongDownlink n) = leb 1 n && leb n 16
 
--- the form with the number n, for callers that have no enums: 0 is the short uplink, 1 the long
--- uplink, 2 + k the long downlink with k segments; 2 and the numbers over 18 give forms that are
--- not valid
+-- the form with the number n, the one numbering that every call with a number for a form uses: 0 is
+-- the short uplink, 1 to 16 the long downlink with that many segments, 17 the long uplink; every
+-- other number gives a form that is not valid
 unfoldable pub formAt : ℕ → Form
-formAt n = cond (eqb n 0) ShortUplink (cond (eqb n 1) LongUplink (LongDownlink (n - 2)))
+formAt n = cond (eqb n 0) ShortUplink (cond (eqb n 17) LongUplink (LongDownlink n))
+
+-- the number of a valid form
+abbrev pub formNumber : Form → ℕ
+formNumber ShortUplink = 0
+formNumber LongUplink = 17
+formNumber (LongDownlink n) = n
+
+-- the claim about numbers of forms: the numbers 0 to 17 are those of the valid forms, one each
+pub record FormNumbers : Type 0 where
+  pub form-back : (f : Form) → formValid f ≡ true → (formNumber f ≤ 17) × (formAt (formNumber f) ≡ f)
+  pub number-back : (n : ℕ) → n ≤ 17 → (formValid (formAt n) ≡ true) × (formNumber (formAt n) ≡ n)
+  pub others : (n : ℕ) → 17 < n → formValid (formAt n) ≡ false

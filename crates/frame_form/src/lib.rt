@@ -15,17 +15,17 @@ pub enum Form {
 
 impl Form {
     // The form with the number `n`, for `frame_bytes` and `message_bytes`: 0 is the short uplink, 1
-    // the long uplink, 2 + k the long downlink with k segments. The form is not valid if `n` is 2
-    // or over 18.
+    // to 16 the long downlink with that many segments, 17 the long uplink. The form is not valid if
+    // `n` is over 17.
     pub fn from_number(n: u8) -> Form
         ensures { λ r. ⌜ r ≡ formAt n ⌝ }
     {
         if n == 0 {
             Form::ShortUplink
-        } else if n == 1 {
+        } else if n == 17 {
             Form::LongUplink
         } else {
-            Form::LongDownlink(n - 2)
+            Form::LongDownlink(n)
         }
     }
 

@@ -9,3 +9,5 @@ pub mod Judging
 pub mod Users
 pub mod Copying
 pub mod Answers
+-- The number and the values of each answer.
+pub mod Numbers

@@ -3,12 +3,13 @@ ghost use mathlib.Core.Path.{_≡_};
 ghost use mathlib.Core.Bool.{true, false, cond};
 ghost use Prim.Native.Nat.{_+_, _*_, _≤_};
 ghost use lib.ListN.{length, set};
+ghost use Rattle.refusal.specs.Numbers.{verdictNumber, valueBy};
 ghost use Rattle.lists.specs.Frames.{bytesIn, lengthsOf};
 ghost use Rattle.lists.specs.Lists.{over};
 ghost use Rattle.frame_form.specs.Forms.{segOf, formValid};
 ghost use Rattle.frame_form.specs.Segments.{frameLength};
 ghost use Rattle.frame.specs.Writing.{fits, frameOf};
-ghost use Rattle.message.specs.Cutting.{cutNumber, shareOf, fullFrames, dataOf, nextStart, framesOf, cutVerdict, cutBy, cutOf, cutOutput, cutLengths};
+ghost use Rattle.message.specs.Cutting.{cutNumber, cutCount, cutBytes, shareOf, fullFrames, dataOf, nextStart, framesOf, cutVerdict, cutBy, cutOf, cutOutput, cutLengths};
 ghost use Rattle.message.specs.CuttingParts.{splice, roomFor, Room, Ready};
 use frame::Data;
 use frame::Packet;
@@ -245,6 +246,9 @@ pub fn cut_message(
     ensures { λ r. ⌜ r ≡ cutOf form start (now (message .entry)) (length (now (out .entry))) (length (now (lengths .entry))) ⌝ }
     ensures written { λ _. ⌜ now (out .exit) ≡ cutOutput form start (now (message .entry)) (now (out .entry)) (length (now (lengths .entry))) ⌝ }
     ensures listed { λ _. ⌜ now (lengths .exit) ≡ cutLengths form start (now (message .entry)) (length (now (out .entry))) (now (lengths .entry)) ⌝ }
+    ensures number { λ r. ⌜ cutNumber r ≡ verdictNumber (cutVerdict form start (now (message .entry)) (length (now (out .entry))) (length (now (lengths .entry)))) ⌝ }
+    ensures frames { λ r. ⌜ cutCount r ≡ valueBy (cutVerdict form start (now (message .entry)) (length (now (out .entry))) (length (now (lengths .entry)))) (length (framesOf form start (now (message .entry)))) ⌝ }
+    ensures bytes { λ r. ⌜ cutBytes r ≡ valueBy (cutVerdict form start (now (message .entry)) (length (now (out .entry))) (length (now (lengths .entry)))) (length (bytesIn (framesOf form start (now (message .entry))))) ⌝ }
 {
     let verdict = check_cut(form, start, message, out.len(), lengths.len());
     match verdict {

@@ -5,11 +5,12 @@ ghost use Prim.Native.Nat.{_+_, _≤_};
 ghost use lib.Dec.{eqb};
 ghost use lib.ListN.{length};
 ghost use lib.Seq.{paste};
+ghost use Rattle.refusal.specs.Numbers.{verdictNumber, valueBy};
 ghost use Rattle.lists.specs.Lists.{over};
 ghost use Rattle.lists.specs.Frames.{partsOf, sum};
 ghost use Rattle.frame.specs.Packets.{asData};
 ghost use Rattle.frame.specs.Reading.{readOf};
-ghost use Rattle.message.specs.Joining.{userIn, joinedNumber, follows, dataVerdict, packetVerdict, framesVerdict, messageIn, joinBy, joinOf, joinOutput};
+ghost use Rattle.message.specs.Joining.{userIn, joinedNumber, joinedBytes, follows, dataVerdict, packetVerdict, framesVerdict, messageIn, joinVerdict, joinBy, joinOf, joinOutput};
 ghost use Rattle.message.specs.JoiningParts.{turnOf, sized, isData, Joinable};
 use frame::Data;
 use frame::MaybeData;
@@ -251,6 +252,8 @@ fn copy_users(form: Form, lengths: &[usize], frames: &[u8], out: &mut [u8])
 pub fn join_frames(form: Form, lengths: &[usize], frames: &[u8], out: &mut [u8]) -> Joined
     ensures { λ r. ⌜ r ≡ joinOf form (now (lengths .entry)) (now (frames .entry)) (length (now (out .entry))) ⌝ }
     ensures written { λ _. ⌜ now (out .exit) ≡ joinOutput form (now (lengths .entry)) (now (frames .entry)) (now (out .entry)) ⌝ }
+    ensures number { λ r. ⌜ joinedNumber r ≡ verdictNumber (joinVerdict form (now (lengths .entry)) (now (frames .entry)) (length (now (out .entry)))) ⌝ }
+    ensures value { λ r. ⌜ joinedBytes r ≡ valueBy (joinVerdict form (now (lengths .entry)) (now (frames .entry)) (length (now (out .entry)))) (length (messageIn form (partsOf (now (lengths .entry)) (now (frames .entry))))) ⌝ }
 {
     let judged = judge(form, lengths, frames, out.len());
     match judged {

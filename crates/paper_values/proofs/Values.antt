@@ -32,13 +32,12 @@ values = record {
   p8 = refl;
   p8-nesn = refl;
   p8-clocks = refl;
-  p9 = refl;
-  p9-frame = refl;
-  p9-read = refl;
-  p10 = refl;
-  p10-read = refl;
-  p11 = refl;
-  p11-read = refl;
+  p9 = record { answer = refl; output = refl; read = refl };
+  p9-downlink = record { answer = refl; output = refl; read = refl };
+  p10 = record { answer = refl; output = refl; read = refl };
+  p10-downlink = record { answer = refl; output = refl; read = refl };
+  p11 = record { answer = refl; output = refl; read = refl };
+  p11-downlink = record { answer = refl; output = refl; read = refl };
   p12 = refl;
   p12-turned = refl;
 }

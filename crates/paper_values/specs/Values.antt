@@ -16,7 +16,8 @@ use Rattle.resequencer.specs.declared.Resequencer.{Resequencer}
 use Rattle.resequencer.specs.declared.Outcome.the-variants.{Held, Old}
 use Rattle.resequencer.specs.declared.Answer.{Answer}
 use Rattle.resequencer.specs.Events.{plain, handed, arriveOf, clockEndOf}
-use Rattle.frame_form.specs.declared.Form.the-variants.{LongUplink}
+use Rattle.frame_form.specs.declared.Form.{Form}
+use Rattle.frame_form.specs.declared.Form.the-variants.{LongUplink, LongDownlink}
 use Rattle.frame_codec.specs.declared.Written.the-variants.{Done as Wrote}
 use Rattle.frame.specs.declared.Packet.{Packet}
 use Rattle.frame.specs.declared.Packet.the-variants.{Data, ClearRequest, ClearConfirmation}
@@ -86,6 +87,14 @@ frame10 = 0x58 ∷ 0x09 ∷ 0x32 ∷ 0x41 ∷ 0x8D ∷ 0xA2 ∷ 0x07 ∷ 0 ∷ 0
 abbrev pub frame11 : List ℕ
 frame11 = 0x5C ∷ 0x09 ∷ 0x32 ∷ 0x41 ∷ 0 ∷ 0 ∷ 0 ∷ 0 ∷ 0 ∷ 0 ∷ []
 
+-- the packet p with this user data is written as this frame of 10 bytes, and the frame is read back
+-- to it; `start` is the index of the user data. "long form": P9 to P11 hold of the long uplink and
+-- of the long downlink
+pub record IsFrame (form : Form) (p : Packet) (user frame : List ℕ) (start : ℕ) : Type 0 where
+  pub answer : writeOf form p (length user) (length old) ≡ Wrote 10
+  pub output : writeOutput form p user old ≡ frame
+  pub read : readOf form frame ≡ PacketRead p (record { at = start; len = length user })
+
 -- ---- routes
 
 -- P12's answer: only code 5 (the set 32, which is 2 ^ 5) at 40 hex, none reported
@@ -114,16 +123,15 @@ pub record Values : Type 0 where
   pub p8-nesn : clockEndOf early 13 .next .nesn ≡ link 15
   pub p8-clocks : clockEndOf early 13 .next .clocks ≡ with 64 0 17
   -- P9 DATA M 1, SN 5, PS 3, PR 2, CH 4, 4 user bytes, long form: begins C5 32 47, frame 10 bytes.
-  pub p9 : writeOf LongUplink data9 (length user9) (length old) ≡ Wrote 10
-  pub p9-frame : writeOutput LongUplink data9 user9 old ≡ frame9
-  pub p9-read : readOf LongUplink frame9 ≡ PacketRead data9 (record { at = 3; len = 4 })
+  pub p9 : IsFrame LongUplink data9 user9 frame9 3
+  pub p9-downlink : IsFrame (LongDownlink 1) data9 user9 frame9 3
   -- P10 CLEAR REQUEST, long form, TC 0, SN 9, CH 3, AM 2, AG 41 hex, CC 141, DC 162, S 0, F 0: 58
   -- 09 32 41 8D A2 07 and three zeros.
-  pub p10 : writeOutput LongUplink request10 [] old ≡ frame10
-  pub p10-read : readOf LongUplink frame10 ≡ PacketRead request10 (record { at = 7; len = 0 })
+  pub p10 : IsFrame LongUplink request10 [] frame10 7
+  pub p10-downlink : IsFrame (LongDownlink 1) request10 [] frame10 7
   -- P11 CONFIRMATION, same fields: 5C 09 32 41 and six zeros.
-  pub p11 : writeOutput LongUplink confirmation11 [] old ≡ frame11
-  pub p11-read : readOf LongUplink frame11 ≡ PacketRead confirmation11 (record { at = 4; len = 0 })
+  pub p11 : IsFrame LongUplink confirmation11 [] frame11 4
+  pub p11-downlink : IsFrame (LongDownlink 1) confirmation11 [] frame11 4
   -- P12 list 59 12 40 50 12 on an empty table leaves only code 5 at 40 hex, none reported. Same for
   -- 50 12 59 12 40.
   pub p12 : updateOf emptyTable (0x59 ∷ 0x12 ∷ 0x40 ∷ 0x50 ∷ 0x12 ∷ []) ≡ updated12

@@ -33,9 +33,20 @@ abbrev pub verdictNumber : Verdict → ℕ
 verdictNumber Done = 0
 verdictNumber (Refused why) = numberOf why
 
+-- a value of an answer by the verdict of its checks: "A refusal returns its number, counts of 0,
+-- unused places 0"
+abbrev pub valueBy : Verdict → ℕ → ℕ
+valueBy Done n = n
+valueBy (Refused why) n = 0
+
+-- the same for a value that is a flag: false after a refusal
+abbrev pub flagBy : Verdict → Bool → Bool
+flagBy Done b = b
+flagBy (Refused why) b = false
+
 -- ---- the checks of a call, in the order in which it makes them: check test1 why1 (check test2
--- why2 (.. Done)). The first test that fails gives the
--- refusal; if all tests hold, the verdict is `Done`.
+-- why2 (.. Done)). The first test that fails gives the refusal; if all tests hold, the verdict is
+-- `Done`.
 
 -- the test must hold, else the call is refused with `why`; `rest` is the verdict of the checks
 -- after it

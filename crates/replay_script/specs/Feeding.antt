@@ -96,10 +96,14 @@ finishText r = cond (eqb (r .have) 0) [] (lineText (r .state) (pending r))
 unfoldable pub finishVerdict : List ℕ → Verdict
 finishVerdict out = check (leb lineRoom (length out)) OutputTooShort Done
 
--- the answer of `finish` by that verdict: a refusal writes 0 bytes
+-- what is kept afterwards: the unfinished line, if there is one, has been run
+abbrev pub finishNext : Replay → Replay
+finishNext r = cond (eqb (r .have) 0) r (runLine r)
+
+-- the answer of `finish` by that verdict: a refusal writes 0 bytes and keeps the same `Replay`
 abbrev pub finishBy : Verdict → Replay → Finished
-finishBy Done r = record { verdict = Done; written = length (finishText r) }
-finishBy (Refused why) r = record { verdict = Refused why; written = 0 }
+finishBy Done r = record { verdict = Done; written = length (finishText r); next = finishNext r }
+finishBy (Refused why) r = record { verdict = Refused why; written = 0; next = r }
 
 -- the answer of `finish`
 unfoldable pub finishOf : Replay → List ℕ → Finished

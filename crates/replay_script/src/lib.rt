@@ -1,14 +1,14 @@
 // Turns a replay script into its report (document 01, "The replay program"). The script comes in
 // parts of any size; between two parts a `Replay` keeps the state of the resequencer and the
-// beginning of an unfinished line. The caller prints the header.
+// beginning of an unfinished line.
 ghost use mathlib.Core.Path.{_≡_};
 ghost use mathlib.Core.List.{[], _∷_};
 ghost use Prim.Native.Nat.{_+_, _*_, _≤_, _<_};
 ghost use lib.ListN.{length, take, drop};
-ghost use Rattle.refusal.specs.Numbers.{numberOf};
+ghost use Rattle.refusal.specs.Numbers.{numberOf, verdictNumber};
 ghost use Rattle.replay_script.specs.Text.{decimalIn, digitAt, decimal, spaced, allSpaced};
-ghost use Rattle.replay_script.specs.Lines.{word, afterWord, arrivalOf, clockEndLine, lineIn, lineAnswer, ticketsText, resultText, answerText, lineText};
-ghost use Rattle.replay_script.specs.Feeding.{freshReplay, pending, keepByte, runLine, byteNext, byteText, feedNext, feedText, feedOf, feedOut, finishOf, finishOut};
+ghost use Rattle.replay_script.specs.Lines.{word, afterWord, arrivalOf, clockEndLine, lineIn, lineAnswer, ticketsText, resultText, answerText, reportHeader};
+ghost use Rattle.replay_script.specs.Feeding.{freshReplay, feedNext, feedText, feedVerdict, feedOf, feedOut, finishVerdict, finishOf, finishOut};
 ghost use Rattle.replay_script.specs.Writing.{Wrote, least, narrowed};
 use refusal::Refusal;
 use refusal::Verdict;
@@ -17,6 +17,38 @@ use resequencer::Outcome;
 use resequencer::Resequencer;
 use sequence::LinkNumber;
 use wordset::set64;
+
+// The first line of every report, with its line end.
+pub fn header() -> [u8; 24]
+    ensures { λ r. ⌜ r ≡ reportHeader ⌝ }
+{
+    [
+        b'n',
+        b'e',
+        b's',
+        b'n',
+        b' ',
+        b'h',
+        b'e',
+        b'l',
+        b'd',
+        b' ',
+        b'c',
+        b'l',
+        b'o',
+        b'c',
+        b'k',
+        b's',
+        b' ',
+        b'r',
+        b'e',
+        b's',
+        b'u',
+        b'l',
+        b't',
+        b'\n',
+    ]
+}
 
 // A line of the script, as read.
 pub enum Line {
@@ -42,11 +74,12 @@ pub struct Fed {
     pub next: Replay,
 }
 
-// The answer of `finish`: whether the end of the script was run or refused, and how many bytes of
-// report were written.
+// The answer of `finish`: whether the end of the script was run or refused, how many bytes of
+// report were written, and what is kept: after a refusal the `Replay` that was given.
 pub struct Finished {
     pub verdict: Verdict,
     pub written: usize,
+    pub next: Replay,
 }
 
 // The `Replay` after some bytes of the script, and where the report ends in the lent output.
@@ -72,6 +105,7 @@ impl Replay {
     // since each byte may end a line.
     pub fn feed(self, part: &[u8], out: &mut [u8]) -> Fed
         ensures { λ r. ⌜ r ≡ feedOf self (now (part .entry)) (now (out .entry)) ⌝ }
+        ensures number { λ r. ⌜ verdictNumber (r .verdict) ≡ verdictNumber (feedVerdict (now (part .entry)) (now (out .entry))) ⌝ }
         ensures written { λ r. ⌜ now (out .exit) ≡ feedOut self (now (part .entry)) (now (out .entry)) ⌝ }
     {
         if out.len() / 256 < part.len() {
@@ -94,100 +128,82 @@ impl Replay {
     // report to the front of `out`. Refused with 5 if `out` has less than 256 bytes.
     pub fn finish(self, out: &mut [u8]) -> Finished
         ensures { λ r. ⌜ r ≡ finishOf self (now (out .entry)) ⌝ }
+        ensures number { λ r. ⌜ verdictNumber (r .verdict) ≡ verdictNumber (finishVerdict (now (out .entry))) ⌝ }
         ensures written { λ r. ⌜ now (out .exit) ≡ finishOut self (now (out .entry)) ⌝ }
     {
         if out.len() < 256 {
             return Finished {
                 verdict: Verdict::Refused(Refusal::OutputTooShort),
                 written: 0,
+                next: self,
             };
         }
         if self.have == 0 {
             return Finished {
                 verdict: Verdict::Done,
                 written: 0,
+                next: self,
             };
         }
-        let step = self.run_line(out, 0);
+        let state = self.state;
+        let line = self.line;
+        let answer = kept_answer(state, line, self.have);
+        let written = put_answer(out, 0, answer);
+        let next = answer.next;
         Finished {
             verdict: Verdict::Done,
-            written: step.end,
-        }
-    }
-
-    // Runs the bytes of the part one after the other.
-    fn run_part(self, part: &[u8], out: &mut [u8]) -> Step
-        requires { ⌜ length (now part) * 256 ≤ length (now out) ⌝ }
-        ensures { λ r. ⌜ (r .next ≡ feedNext self (now (part .entry))) × Wrote (now (out .entry)) (now (out .exit)) 0 (r .end) (256 * length (now (part .entry))) (feedText self (now (part .entry))) ⌝ }
-    {
-        let mut replay = self;
-        let mut end = 0;
-        let mut i = 0;
-        while i < part.len() {
-            let step = replay.run_byte(part[i], out, end);
-            end = step.end;
-            let next = step.next;
-            replay = next;
-            i += 1;
-        }
-        Step { next: replay, end }
-    }
-
-    // Runs one byte: a line end runs the line kept so far, any other byte is added to it.
-    fn run_byte(self, byte: u8, out: &mut [u8], from: usize) -> Step
-        requires { ⌜ from + 256 ≤ length (now out) ⌝ }
-        ensures { λ r. ⌜ (r .next ≡ byteNext self byte) × Wrote (now (out .entry)) (now (out .exit)) from (r .end) 256 (byteText self byte) ⌝ }
-    {
-        if byte == b'\n' {
-            return self.run_line(out, from);
-        }
-        Step {
-            next: self.keep_byte(byte),
-            end: from,
-        }
-    }
-
-    // Adds a byte to the unfinished line; the 15th and later bytes are dropped.
-    fn keep_byte(self, byte: u8) -> Replay
-        ensures { λ r. ⌜ r ≡ keepByte self byte ⌝ }
-    {
-        let have = self.have;
-        if have < 14 {
-            let state = self.state;
-            let mut line = self.line;
-            line[have as usize] = byte;
-            return Replay {
-                state,
-                line,
-                have: have + 1,
-            };
-        }
-        self
-    }
-
-    // Runs the line that is kept, and writes its report to `out` starting at `from`.
-    fn run_line(self, out: &mut [u8], from: usize) -> Step
-        requires { ⌜ from + 256 ≤ length (now out) ⌝ }
-        ensures { λ r. ⌜ (r .next ≡ runLine self) × Wrote (now (out .entry)) (now (out .exit)) from (r .end) 256 (lineText (self .state) (pending self)) ⌝ }
-    {
-        let line = self.line;
-        let size = at_most(self.have, 14);
-        let state = self.state;
-        let answer = answer_to(state, read_line(&line[..size]));
-        let next = answer.next;
-        let end = put_answer(out, from, answer);
-        Step {
+            written,
             next: Replay {
                 state: next,
                 line,
                 have: 0,
             },
+        }
+    }
+
+    // Runs the bytes of the part one after the other: a line end runs the line kept so far, any
+    // other byte is added to it; the 15th and later bytes of a line are dropped. What is kept is in
+    // three locals, and becomes a `Replay` at the end only: one that is made at each byte is copied
+    // at each byte.
+    fn run_part(self, part: &[u8], out: &mut [u8]) -> Step
+        requires { ⌜ length (now part) * 256 ≤ length (now out) ⌝ }
+        ensures { λ r. ⌜ (r .next ≡ feedNext self (now (part .entry))) × Wrote (now (out .entry)) (now (out .exit)) 0 (r .end) (256 * length (now (part .entry))) (feedText self (now (part .entry))) ⌝ }
+    {
+        let mut state = self.state;
+        let mut line = self.line;
+        let mut have = self.have;
+        let mut end = 0;
+        let mut i = 0;
+        while i < part.len() {
+            let byte = part[i];
+            i += 1;
+            if byte == b'\n' {
+                let answer = kept_answer(state, line, have);
+                end = put_answer(out, end, answer);
+                let next = answer.next;
+                state = next;
+                have = 0;
+            } else if have < 14 {
+                line[have as usize] = byte;
+                have += 1;
+            }
+        }
+        Step {
+            next: Replay { state, line, have },
             end,
         }
     }
 }
 
 // ---- running a line
+
+// The resequencer's answer to the line in the first `have` bytes.
+fn kept_answer(state: Resequencer, line: [u8; 14], have: u8) -> Answer
+    ensures { λ r. ⌜ r ≡ lineAnswer state (lineIn (take have line)) ⌝ }
+{
+    let size = at_most(have, 14);
+    answer_to(state, read_line(&line[..size]))
+}
 
 // The resequencer's answer to a line. A malformed line is refused with 2 and changes nothing.
 fn answer_to(state: Resequencer, line: Line) -> Answer

@@ -8,3 +8,4 @@ pub mod Steps
 pub mod Stray
 pub mod Deciding
 pub mod Refusing
+pub mod OutcomeNumbers

@@ -14,20 +14,20 @@ use Rattle.resequencer.specs.State.{isHeld, ahead}
 use Rattle.resequencer.specs.Events.{outcomeNumber, plain, handOn, handOnRun, takeArrival, arriveVerdict, arriveBy, arriveOf, takeClockEnd, clockEndVerdict, clockEndBy, clockEndOf}
 use Rattle.resequencer.specs.Refusing.{RefusalsChangeNothing}
 
-abbrev Accepted : Answer → Type 0
+abbrev pub Accepted : Answer → Type 0
 Accepted a = outcomeNumber (a .outcome) ≡ 0
 
 either-accepted : (b : Bool) (x y : Answer) → Accepted x → Accepted y → Accepted (cond b x y)
 either-accepted true x y p q = p
 either-accepted false x y p q = q
 
-taken-accepted : (s : Resequencer) (n ticket : ℕ) → Accepted (takeArrival s n ticket)
+pub taken-accepted : (s : Resequencer) (n ticket : ℕ) → Accepted (takeArrival s n ticket)
 unfolding takeArrival handOnRun handOn plain
 taken-accepted s n ticket =
     either-accepted (ltb 31 (ahead s n)) _ _ refl
     (either-accepted (isHeld s n) _ _ refl (either-accepted (eqb (ahead s n) 0) _ _ refl refl))
 
-ended-accepted : (s : Resequencer) (n : ℕ) → Accepted (takeClockEnd s n)
+pub ended-accepted : (s : Resequencer) (n : ℕ) → Accepted (takeClockEnd s n)
 unfolding takeClockEnd handOn
 ended-accepted s n = refl
 

@@ -8,7 +8,7 @@ ghost use mathlib.Core.List.{[], _++_};
 ghost use Prim.Native.Nat.{_+_, _^_, _≤_, _<_};
 ghost use lib.Dec.{eqb};
 ghost use lib.ListN.{length, replicate};
-ghost use Rattle.refusal.specs.Numbers.{check};
+ghost use Rattle.refusal.specs.Numbers.{verdictNumber, check};
 ghost use Rattle.refusal.specs.declared.Refusal.the-variants.{NotInOrder};
 ghost use Rattle.sequence.specs.Numbers.{link};
 ghost use Rattle.wordset.specs.Sets.{member, every};
@@ -501,6 +501,7 @@ impl Resequencer {
     // good order, 1 if `sn` is over 63.
     pub fn arrive(self, sn: LinkNumber, ticket: u16) -> Answer
         ensures { λ r. ⌜ r ≡ arriveOf self (sn .0) ticket ⌝ }
+        ensures number { λ r. ⌜ outcomeNumber (r .outcome) ≡ verdictNumber (arriveVerdict self (sn .0)) ⌝ }
     {
         let tickets = self.tickets;
         let step = self.numbers()
@@ -513,6 +514,7 @@ impl Resequencer {
     // is not in good order, 1 if `sn` is over 63, 7 if no clock runs for `sn`.
     pub fn clock_end(self, sn: LinkNumber) -> Answer
         ensures { λ r. ⌜ r ≡ clockEndOf self (sn .0) ⌝ }
+        ensures number { λ r. ⌜ outcomeNumber (r .outcome) ≡ verdictNumber (clockEndVerdict self (sn .0)) ⌝ }
     {
         let tickets = self.tickets;
         let step = self.numbers()

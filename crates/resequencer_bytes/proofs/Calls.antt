@@ -1,6 +1,6 @@
 -- What the calls write and return, case by case: the premises are the tests that the code makes.
 -- Assumes nothing.
-use mathlib.Core.Path.{_≡_, refl, sym, ap, ap₂, _∙_, subst}
+use mathlib.Core.Path.{_≡_, refl, sym, ap, ap₂, _∙_}
 use mathlib.Core.Bool.{Bool, true, false, cond, _&&_}
 use mathlib.Core.List.{List, [], _++_}
 use mathlib.Core.Logic.{_≢_}
@@ -9,27 +9,24 @@ use native.Mathlib.Omega.{arith}
 use lib.Dec.{eqb, lit<}
 use lib.ListN.{length, getD, set, take, drop, replicate, length-drop}
 use lib.Seq.{take-all, paste}
-use borrow.Author.Tests.{eq-eqb, ne-eqb, eqb-false}
+use borrow.Author.Tests.{eq-eqb, ne-eqb}
 use Rattle.refusal.specs.declared.Refusal.{Refusal}
 use Rattle.refusal.specs.Numbers.{numberOf}
 use Rattle.refusal.proofs.Numbers.{number-range}
 use Rattle.little.specs.Little.{littleOf, littleBytes, listBytes}
 use Rattle.little.specs.Law.{Below}
-use Rattle.wordset.specs.Sets.{member, digit, every}
-use Rattle.resequencer.specs.declared.Resequencer.{Resequencer}
+use Rattle.wordset.specs.Sets.{member, every}
 use Rattle.resequencer.specs.declared.Numbers.{Numbers}
 use Rattle.resequencer.specs.declared.Step.{Step}
 use Rattle.resequencer.specs.declared.Outcome.{Outcome}
 use Rattle.resequencer.specs.declared.Outcome.the-variants.{Refused}
-use Rattle.resequencer.specs.declared.Answer.{Answer}
 use Rattle.resequencer.specs.State.{freshState, inOrder}
-use Rattle.resequencer.specs.Events.{outcomeNumber, plain, places, heldTickets, arriveOf, clockEndOf}
+use Rattle.resequencer.specs.Events.{outcomeNumber, places, heldTickets}
 use Rattle.resequencer.specs.Parts.{ticketFits, ticketsLeft, arrivedTickets, heldTicketsFrom}
 use Rattle.resequencer.specs.Numbers.{numbersOf, handsOn, holds, stepTickets, stepState, stepAnswer}
 use Rattle.resequencer.proofs.Order.{in-order}
 use Rattle.resequencer.proofs.Handing.{held-from}
-use Rattle.resequencer.proofs.Refusing.{refusals-change-nothing}
-use Rattle.resequencer_bytes.specs.Stored.{isCall, stateIn, stateBytes, outcomeKind, packedAnswer, answerBy, bytesBy, ticketsBy, freshAnswer, freshBytes, orderAnswer}
+use Rattle.resequencer_bytes.specs.Stored.{stateIn, stateBytes, outcomeKind, packedAnswer, freshAnswer, freshBytes, orderAnswer}
 use Rattle.resequencer_bytes.specs.Parts.{ticketsIn, withNumbers, withTickets}
 use Rattle.resequencer_bytes.proofs.Writing.{tickets-same, ticket-written, state-made}
 use Rattle.resequencer_bytes.proofs.Stored.{written-back}
@@ -119,7 +116,7 @@ unfolding stateIn
 numbers-same b l low = sym (state-made b b (stateIn b) l (tickets-same b l low) ∙ written-back b l low)
 
 -- the number that a step returns (r), and the bytes (y) and places (out) after it
-abbrev Ends : List ℕ → Step → ℕ → ℕ → ℕ → List ℕ → ℕ → List ℕ → List ℕ → Type 0
+abbrev pub Ends : List ℕ → Step → ℕ → ℕ → ℕ → List ℕ → ℕ → List ℕ → List ℕ → Type 0
 Ends b step d n ticket out₀ r y out =
     (r ≡ packedAnswer (stepAnswer (stateIn b) step d n ticket))
     × ((y ≡ cond (eqb (outcomeNumber (step .outcome)) 0) (stateBytes (stepState (stateIn b) step n ticket)) b)
@@ -162,62 +159,7 @@ module _ (b : List ℕ) (step : Step) (d n ticket : ℕ) (out₀ : List ℕ) (l 
         ),
       )
 
--- ---- a call: the number returned, and the bytes and places after it
-
-abbrev After : Bool → Answer → List ℕ → List ℕ → ℕ → List ℕ → List ℕ → Type 0
-After call a b out r b′ out′ = (r ≡ answerBy call a) × ((b′ ≡ bytesBy call a b) × (out′ ≡ ticketsBy call a out))
-
-abbrev pub Results : Answer → List ℕ → List ℕ → ℕ → List ℕ → List ℕ → Type 0
-Results a b out r b′ out′ = After (isCall b (length out)) a b out r b′ out′
-
-no-call : (a : Answer) (b out : List ℕ) → isCall b (length out) ≡ false → Results a b out 14 b out
-unfolding answerBy bytesBy ticketsBy
-no-call a b out e = subst (λ (call : Bool). After call a b out 14 b out) (sym e) (refl, (refl, refl))
-
-pub no-state : (a : Answer) (b out : List ℕ) → length b ≢ 146 → Results a b out 14 b out
-no-state a b out h = no-call a b out (ap (λ (x : Bool). x && eqb (length out) 32) (ne-eqb (length b) 146 h))
-
-pub no-places : (a : Answer) (b out : List ℕ) → length b ≡ 146 → length out ≢ 32 → Results a b out 14 b out
-no-places a b out h k = no-call a b out (ap₂ (λ (x y : Bool). x && y) (eq-eqb (length b) 146 h) (ne-eqb (length out) 32 k))
-
--- a refused answer has the same state
-abbrev pub Stays : Resequencer → Answer → Type 0
-Stays s a = outcomeNumber (a .outcome) ≢ 0 → a .next ≡ s
-
-pub arrival-stays : (s : Resequencer) (n ticket : ℕ) → Stays s (arriveOf s n ticket)
-unfolding plain
-arrival-stays s n ticket h = ap (λ (a : Answer). a .next) (refusals-change-nothing .arrival s n ticket h)
-
-pub end-stays : (s : Resequencer) (n : ℕ) → Stays s (clockEndOf s n)
-unfolding plain
-end-stays s n h = ap (λ (a : Answer). a .next) (refusals-change-nothing .clock-end s n h)
-
-abbrev pub Written : Answer → List ℕ → List ℕ → ℕ → List ℕ → List ℕ → Type 0
-Written a b out r b′ out′ =
-    (r ≡ packedAnswer a)
-    × ((b′ ≡ cond (eqb (outcomeNumber (a .outcome)) 0) (stateBytes (a .next)) b)
-    × (out′ ≡ cond (eqb (outcomeNumber (a .outcome)) 0) (a .tickets) out))
-
-pub done : (a c : Answer) (b out : List ℕ) (r : ℕ) (b′ out′ : List ℕ) → length b ≡ 146 → length out ≡ 32 → Below 256 b → a ≡ c → Stays (stateIn b) c
-    → Written a b out r b′ out′ → Results c b out r b′ out′
-unfolding answerBy bytesBy ticketsBy
-done a c b out r b′ out′ lb lo low e stays written =
-    let w = subst (λ (x : Answer). Written x b out r b′ out′) e written in
-    subst (λ (call : Bool). After call c b out r b′ out′) (sym (ap₂ (λ (x y : Bool). x && y) (eq-eqb (length b) 146 lb) (eq-eqb (length out) 32 lo)))
-    (w .0, (w .1 .0 ∙ bytes (eqb (outcomeNumber (c .outcome)) 0) refl, w .1 .1))
-  where
-    bytes : (t : Bool) → eqb (outcomeNumber (c .outcome)) 0 ≡ t → cond t (stateBytes (c .next)) b ≡ stateBytes (c .next)
-    bytes true q = refl
-    bytes false q = sym (ap stateBytes (stays (eqb-false (outcomeNumber (c .outcome)) 0 q)) ∙ written-back b lb low)
-
--- the answer of a step, as `answer` promises it
-pub as-written : (s : Resequencer) (step : Step) (d n ticket : ℕ) (b out : List ℕ) (r : ℕ) (b′ out′ : List ℕ)
-    → (r ≡ packedAnswer (stepAnswer s step d n ticket))
-    × ((b′ ≡ cond (eqb (outcomeNumber (step .outcome)) 0) (stateBytes (stepState s step n ticket)) b)
-    × (out′ ≡ cond (eqb (outcomeNumber (step .outcome)) 0) (places (stepTickets s step d ticket)) out))
-    → Written (stepAnswer s step d n ticket) b out r b′ out′
-unfolding stepAnswer
-as-written s step d n ticket b out r b′ out′ w = w
+-- ---- tests of the code
 
 -- the code's test of the tickets in their bytes is the test of the state's tickets
 pub stored-fit : (b : List ℕ) (held : ℕ) (fits : Bool) → length b ≡ 146 → held ≡ littleOf (take 8 (drop 2 b)) → fits ≡ every 64 (ticketFits held (ticketsIn (take 128 (drop 18 b))))
@@ -227,13 +169,14 @@ stored-fit b held fits l e f = f ∙ ap₂ (λ (h : ℕ) (r : List ℕ). every 6
 
 -- ---- good order
 
-pub order-none : (b : List ℕ) → length b ≢ 146 → 0 ≡ orderAnswer b
+pub order-none : (b : List ℕ) → length b ≢ 146 → 14 ≡ orderAnswer b
 unfolding orderAnswer
 order-none b h = simp (ne-eqb (length b) 146 h)
 
-pub order-code : (b : List ℕ) (good : Bool) → length b ≡ 146 → good ≡ inOrder (stateIn b) → digit good ≡ orderAnswer b
+pub order-code : (b : List ℕ) (good : Bool) → length b ≡ 146 → good ≡ inOrder (stateIn b) → cond good 0 14 ≡ orderAnswer b
 unfolding orderAnswer
-order-code b good l g = ap digit g ∙ ap (λ (x : Bool). digit (x && inOrder (stateIn b))) (sym (eq-eqb (length b) 146 l))
+order-code b good l g =
+    ap (λ (x : Bool). cond x 0 14) g ∙ ap (λ (x : Bool). cond (x && inOrder (stateIn b)) 0 14) (sym (eq-eqb (length b) 146 l))
 
 -- ---- a fresh state
 

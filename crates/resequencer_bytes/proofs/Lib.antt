@@ -4,4 +4,5 @@ pub mod Writing
 pub mod Stored
 pub mod Steps
 pub mod Calls
+pub mod Checking
 pub mod Claims

@@ -30,11 +30,11 @@ pub record RoundTrips : Type 0 where
 -- changes." The refusal number is the lowest byte of the number returned. If it is not 0, the rest
 -- of the number returned is 0, and no byte of the state and no place for a ticket changes.
 pub record RefusalsChangeNothing : Type 0 where
-  pub arrival : (b out : List ℕ) (n ticket : ℕ) → Below 256 b → arriveAnswer b (length out) n ticket % 256 ≢ 0
+  pub arrival : (b out : List ℕ) (n ticket : ℕ) → arriveAnswer b (length out) n ticket % 256 ≢ 0
       → (arriveAnswer b (length out) n ticket < 256)
       × (arriveBytes b (length out) n ticket ≡ b)
       × (arriveTickets b out n ticket ≡ out)
-  pub clock-end : (b out : List ℕ) (n : ℕ) → Below 256 b → clockEndAnswer b (length out) n % 256 ≢ 0
+  pub clock-end : (b out : List ℕ) (n : ℕ) → clockEndAnswer b (length out) n % 256 ≢ 0
       → (clockEndAnswer b (length out) n < 256)
       × (clockEndBytes b (length out) n ≡ b)
       × (clockEndTickets b out n ≡ out)

@@ -6,19 +6,21 @@
 use mathlib.Core.Bool.{Bool, cond, _&&_}
 use mathlib.Core.List.{List, _∷_, _++_}
 use Prim.Native.Nat.{ℕ, _+_, _*_}
-use lib.Dec.{eqb}
+use lib.Dec.{leb, eqb}
 use lib.ListN.{length, getD, take, drop}
-use Rattle.refusal.specs.declared.Refusal.the-variants.{NotInOrder}
-use Rattle.refusal.specs.Numbers.{numberOf}
+use Rattle.refusal.specs.declared.Refusal.the-variants.{OutputTooShort, NotInOrder}
+use Rattle.refusal.specs.declared.Verdict.{Verdict}
+use Rattle.refusal.specs.declared.Verdict.the-variants.{Done, Refused as RefusedVerdict}
+use Rattle.refusal.specs.Numbers.{numberOf, check, andThen}
+use Rattle.lists.specs.Lists.{over}
 use Rattle.little.specs.Little.{littleOf, littleBytes, littleList, listBytes}
 use Rattle.sequence.specs.Numbers.{link}
-use Rattle.wordset.specs.Sets.{digit}
 use Rattle.resequencer.specs.declared.Resequencer.{Resequencer}
 use Rattle.resequencer.specs.declared.Outcome.{Outcome}
 use Rattle.resequencer.specs.declared.Outcome.the-variants.{Held, HandedOn, Old, Duplicate, Refused}
 use Rattle.resequencer.specs.declared.Answer.{Answer}
 use Rattle.resequencer.specs.State.{freshState, inOrder}
-use Rattle.resequencer.specs.Events.{outcomeNumber, arriveOf, clockEndOf}
+use Rattle.resequencer.specs.Events.{outcomeNumber, arriveVerdict, arriveOf, clockEndVerdict, clockEndOf}
 
 -- ---- the bytes of a state
 
@@ -56,49 +58,63 @@ outcomeKind (Refused why) = 0
 unfoldable pub packedAnswer : Answer → ℕ
 packedAnswer a = outcomeNumber (a .outcome) + 256 * outcomeKind (a .outcome) + 65536 * a .count
 
--- ---- a call
+-- ---- a call. `places` is the number of lent places for tickets
 
--- the lent memory has the right sizes: 146 bytes for a state, 32 places for tickets
-abbrev pub isCall : List ℕ → ℕ → Bool
-isCall b places = isState b && eqb places 32
+-- the checks of an arrival, in the order 14, 1, 5: bytes of another length are no state in good
+-- order; then those of the resequencer; then there are 32 places, else "lent output shorter than
+-- needed"
+unfoldable pub arriveChecks : List ℕ → ℕ → ℕ → Verdict
+arriveChecks b places n =
+    check (isState b) NotInOrder
+    (andThen (arriveVerdict (stateIn b) n)
+    (check (leb 32 places) OutputTooShort
+    Done))
 
--- the number that a call returns, where a is the resequencer's answer and `call` is whether the
--- sizes are right. Memory of another size is refused with 14, "the state is not in good order"
-unfoldable pub answerBy : Bool → Answer → ℕ
-answerBy call a = cond call (packedAnswer a) (numberOf NotInOrder)
+-- the checks of a clock end, in the order 14, 1, 5, 7: those of an arrival, then that the clock of
+-- n runs, which is the last check of `clockEndVerdict`
+unfoldable pub clockEndChecks : List ℕ → ℕ → ℕ → Verdict
+clockEndChecks b places n = andThen (arriveChecks b places n) (clockEndVerdict (stateIn b) n)
 
--- the state's bytes after the call; a refused answer has the same state, and so the same bytes
-unfoldable pub bytesBy : Bool → Answer → List ℕ → List ℕ
-bytesBy call a b = cond call (stateBytes (a .next)) b
+-- the number that a call returns, where a is the resequencer's answer: a refusal returns its number
+-- alone
+abbrev pub answerBy : Verdict → Answer → ℕ
+answerBy Done a = packedAnswer a
+answerBy (RefusedVerdict why) a = numberOf why
 
--- the places for tickets after the call: a refusal writes nothing, else every place is written, the
--- unused ones with 0
-unfoldable pub ticketsBy : Bool → Answer → List ℕ → List ℕ
-ticketsBy call a out = cond call (cond (eqb (outcomeNumber (a .outcome)) 0) (a .tickets) out) out
+-- the state's bytes after the call; a refusal writes nothing
+abbrev pub bytesBy : Verdict → Answer → List ℕ → List ℕ
+bytesBy Done a b = stateBytes (a .next)
+bytesBy (RefusedVerdict why) a b = b
+
+-- the places for tickets after the call: the answer's 32 places are written, the unused ones with
+-- 0, and places past them keep what they held; a refusal writes nothing
+abbrev pub ticketsBy : Verdict → Answer → List ℕ → List ℕ
+ticketsBy Done a out = over (a .tickets) out
+ticketsBy (RefusedVerdict why) a out = out
 
 -- ---- the arrival of number n with its ticket: the number returned, the bytes and the places for
 -- tickets afterwards
 
 abbrev pub arriveAnswer : List ℕ → ℕ → ℕ → ℕ → ℕ
-arriveAnswer b places n ticket = answerBy (isCall b places) (arriveOf (stateIn b) n ticket)
+arriveAnswer b places n ticket = answerBy (arriveChecks b places n) (arriveOf (stateIn b) n ticket)
 
 abbrev pub arriveBytes : List ℕ → ℕ → ℕ → ℕ → List ℕ
-arriveBytes b places n ticket = bytesBy (isCall b places) (arriveOf (stateIn b) n ticket) b
+arriveBytes b places n ticket = bytesBy (arriveChecks b places n) (arriveOf (stateIn b) n ticket) b
 
 abbrev pub arriveTickets : List ℕ → List ℕ → ℕ → ℕ → List ℕ
-arriveTickets b out n ticket = ticketsBy (isCall b (length out)) (arriveOf (stateIn b) n ticket) out
+arriveTickets b out n ticket = ticketsBy (arriveChecks b (length out) n) (arriveOf (stateIn b) n ticket) out
 
 -- ---- the end of the clock of number n: the number returned, the bytes and the places for tickets
 -- afterwards
 
 abbrev pub clockEndAnswer : List ℕ → ℕ → ℕ → ℕ
-clockEndAnswer b places n = answerBy (isCall b places) (clockEndOf (stateIn b) n)
+clockEndAnswer b places n = answerBy (clockEndChecks b places n) (clockEndOf (stateIn b) n)
 
 abbrev pub clockEndBytes : List ℕ → ℕ → ℕ → List ℕ
-clockEndBytes b places n = bytesBy (isCall b places) (clockEndOf (stateIn b) n) b
+clockEndBytes b places n = bytesBy (clockEndChecks b places n) (clockEndOf (stateIn b) n) b
 
 abbrev pub clockEndTickets : List ℕ → List ℕ → ℕ → List ℕ
-clockEndTickets b out n = ticketsBy (isCall b (length out)) (clockEndOf (stateIn b) n) out
+clockEndTickets b out n = ticketsBy (clockEndChecks b (length out) n) (clockEndOf (stateIn b) n) out
 
 -- ---- a fresh state, and good order
 
@@ -110,6 +126,6 @@ freshAnswer b = cond (isState b) 0 (numberOf NotInOrder)
 unfoldable pub freshBytes : List ℕ → List ℕ
 freshBytes b = cond (isState b) (stateBytes freshState) b
 
--- 1 if the bytes are a state in good order, else 0
+-- 0 if the bytes are a state in good order, else 14
 unfoldable pub orderAnswer : List ℕ → ℕ
-orderAnswer b = digit (isState b && inOrder (stateIn b))
+orderAnswer b = cond (isState b && inOrder (stateIn b)) 0 (numberOf NotInOrder)

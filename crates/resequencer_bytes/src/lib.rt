@@ -8,12 +8,13 @@ ghost use Prim.Native.Nat.{_+_, _≤_, _<_};
 ghost use lib.Dec.{eqb};
 ghost use lib.ListN.{length, getD, set, drop, replicate};
 ghost use lib.Seq.{paste};
+ghost use Rattle.refusal.specs.Numbers.{verdictNumber};
 ghost use Rattle.little.specs.Little.{littleOf, littleBytes};
 ghost use Rattle.wordset.specs.Sets.{every};
 ghost use Rattle.resequencer.specs.Events.{outcomeNumber, places};
 ghost use Rattle.resequencer.specs.Parts.{ticketFits, ticketsLeft, arrivedTickets, heldTicketsFrom};
 ghost use Rattle.resequencer.specs.Numbers.{numbersOf, stepTickets, stepState, stepAnswer};
-ghost use Rattle.resequencer_bytes.specs.Stored.{stateIn, stateBytes, packedAnswer, arriveAnswer, arriveBytes, arriveTickets, clockEndAnswer, clockEndBytes, clockEndTickets, freshAnswer, freshBytes, orderAnswer};
+ghost use Rattle.resequencer_bytes.specs.Stored.{stateIn, stateBytes, packedAnswer, arriveChecks, arriveAnswer, arriveBytes, arriveTickets, clockEndAnswer, clockEndBytes, clockEndTickets, freshAnswer, freshBytes, orderAnswer};
 ghost use Rattle.resequencer_bytes.specs.Parts.{ticketsIn, withNumbers, withTickets, HandOnFits, AnswerFits};
 use resequencer::Numbers;
 use resequencer::Outcome;
@@ -271,26 +272,41 @@ pub fn fresh(state: &mut [u8]) -> u32
     0
 }
 
-// Returns 1 if the bytes are a state in good order, else 0.
+// Returns 0 if the bytes are a state in good order, else 14.
 pub fn in_order(state: &[u8]) -> u32
     ensures { λ r. ⌜ r ≡ orderAnswer (now (state .entry)) ⌝ }
 {
     if state.len() != 146 {
-        return 0;
+        return 14;
     }
     if tickets_in_order(state) {
         let numbers = numbers_in(state);
-        if numbers.in_order() { 1 } else { 0 }
+        if numbers.in_order() { 0 } else { 14 }
     } else {
-        0
+        14
     }
 }
 
+// What `arrive` and `clock_end` return if there are fewer than 32 places: 14 or 1 if that comes
+// first, else 5. Those calls make the tests of 14 and 1 together with the step. They are made again
+// here, so that a call with 32 places pays for one comparison only.
+fn short_answer(state: &[u8], sn: u8) -> u32
+    ensures { λ r. ⌜ r ≡ verdictNumber (arriveChecks (now (state .entry)) 0 sn) ⌝ }
+{
+    let order = in_order(state);
+    if order != 0 {
+        return order;
+    }
+    let number = LinkNumber(sn);
+    if number.in_field() { 5 } else { 1 }
+}
+
 // A packet with the sequence number `sn` arrives: writes the next state to `state` and the tickets
-// handed on to `tickets`, with 0 in the unused places. Returns the refusal number in the lowest
-// byte, the outcome in the next (0 held, 1 handed on, 2 old, 3 duplicate) and the count of tickets
-// handed on above. Refused: 14 if `state` is not 146 bytes or `tickets` not 32 places, then as
-// `Resequencer::arrive`; a refusal writes nothing.
+// handed on to the first 32 places of `tickets`, with 0 in the unused ones; places past these 32
+// keep what they held. Returns the refusal number in the lowest byte, the outcome in the next (0
+// held, 1 handed on, 2 old, 3 duplicate) and the count of tickets handed on above. Refused with 14
+// if `state` is not 146 bytes or not in good order, 1 if `sn` is over 63, 5 if there are fewer than
+// 32 places; a refusal writes nothing.
 pub fn arrive(state: &mut [u8], tickets: &mut [u16], sn: u8, ticket: u16) -> u32
     ensures { λ r. ⌜ r ≡ arriveAnswer (now (state .entry)) (length (now (tickets .entry))) sn ticket ⌝ }
     ensures { λ _. ⌜ now (state .exit) ≡ arriveBytes (now (state .entry)) (length (now (tickets .entry))) sn ticket ⌝ }
@@ -299,17 +315,17 @@ pub fn arrive(state: &mut [u8], tickets: &mut [u16], sn: u8, ticket: u16) -> u32
     if state.len() != 146 {
         return 14;
     }
-    if tickets.len() != 32 {
-        return 14;
+    if tickets.len() < 32 {
+        return short_answer(state, sn);
     }
     let fits = tickets_in_order(state);
     let numbers = numbers_in(state);
     let step = numbers.arrive(fits, LinkNumber(sn));
-    answer(state, tickets, numbers, step, 1, sn, ticket)
+    answer(state, &mut tickets[..32], numbers, step, 1, sn, ticket)
 }
 
-// The clock of `sn` ends: writes and returns as `arrive` does. Refused: 14 if `state` is not 146
-// bytes or `tickets` not 32 places, then as `Resequencer::clock_end`; a refusal writes nothing.
+// The clock of `sn` ends: writes and returns as `arrive` does. Refused with 14, 1, 5 as an arrival,
+// then with 7 if no clock runs for `sn`; a refusal writes nothing.
 pub fn clock_end(state: &mut [u8], tickets: &mut [u16], sn: u8) -> u32
     ensures { λ r. ⌜ r ≡ clockEndAnswer (now (state .entry)) (length (now (tickets .entry))) sn ⌝ }
     ensures { λ _. ⌜ now (state .exit) ≡ clockEndBytes (now (state .entry)) (length (now (tickets .entry))) sn ⌝ }
@@ -318,11 +334,11 @@ pub fn clock_end(state: &mut [u8], tickets: &mut [u16], sn: u8) -> u32
     if state.len() != 146 {
         return 14;
     }
-    if tickets.len() != 32 {
-        return 14;
+    if tickets.len() < 32 {
+        return short_answer(state, sn);
     }
     let fits = tickets_in_order(state);
     let numbers = numbers_in(state);
     let step = numbers.clock_end(fits, LinkNumber(sn));
-    answer(state, tickets, numbers, step, 0, sn, 0)
+    answer(state, &mut tickets[..32], numbers, step, 0, sn, 0)
 }

@@ -16,7 +16,7 @@ use Rattle.resequencer.specs.declared.Resequencer.{Resequencer}
 use Rattle.resequencer.specs.State.{isHeld, ahead, numberAt, meetsClock}
 use Rattle.resequencer.specs.Events.{isPassed, remaining, advance}
 use Rattle.resequencer.proofs.Order.{number-lt, number-ahead}
-use Rattle.resequencer_claims.proofs.Places.{heldAt, clockAt, ticketAt, ahead-lt, number-then, held-near, clock-near, ticket-near, held-far, clock-far, ticket-far, tickets-length}
+use Rattle.resequencer_claims.proofs.Places.{heldAt, clockAt, ticketAt, ahead-lt, number-then, held-near, clock-near, ticket-near, held-far, clock-far, ticket-far}
 use Rattle.resequencer_claims.proofs.Order.{Sized, Top, Ordered, never}
 use Rattle.resequencer_claims.proofs.Meeting.{meets-more, meets-above}
 
@@ -25,7 +25,7 @@ unfolding remaining
 remaining-lt s m w = setOf-lt 64 (λ n. member w n && not (isPassed s m n))
 
 pub advance-sized : (s : Resequencer) (m : ℕ) → Sized (advance s m)
-advance-sized s m = record { held-fits = held-fits; clocks-fit = clocks-fit; tickets-long = tickets-length s m }
+advance-sized s m = record { held-fits = held-fits; clocks-fit = clocks-fit }
   where
     held-fits : advance s m .held < 2 ^ 64
     held-fits = unfold advance in remaining-lt s m (s .held)

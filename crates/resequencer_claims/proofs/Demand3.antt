@@ -12,7 +12,7 @@ use native.Mathlib.Omega.{arith}
 use Rattle.resequencer.specs.declared.Resequencer.{Resequencer}
 use Rattle.resequencer.specs.State.{freshState}
 use Rattle.resequencer_claims.specs.Events.{Event, packet, stray, clockEnd, answer, handedOn, brings, nothing, more, arrivedAfter, arrived}
-use Rattle.resequencer_claims.specs.Demand3.{Lowest, Allowed, AllowedList, ticketsFrom, Demand3}
+use Rattle.resequencer_claims.specs.Demand3.{Lowest, AllowedCall, Allowed, AllowedList, ticketsFrom, Demand3}
 use Rattle.resequencer_claims.specs.Rising.{FirstMissing}
 use Rattle.resequencer_claims.proofs.Order.{never}
 use Rattle.resequencer_claims.proofs.Standing.{arrivedFrom, Stands}
@@ -66,13 +66,22 @@ module _ (T : ℕ → ℕ) where
   )
 
   -- all below the next expected number have arrived
-  below-next : (E : ℕ) (has : ℕ → Bool) (s : Resequencer) (e : Event) (w : Steps T E has s e) → FirstMissing (more has e) E (w .next)
+  pub below-next : (E : ℕ) (has : ℕ → Bool) (s : Resequencer) (e : Event) (w : Steps T E has s e) → FirstMissing (more has e) E (w .next)
       → ((n : ℕ) → n < E → has n ≡ true) → (n : ℕ) → n < w .next → more has e n ≡ true
   below-next E has s e w f below n h = go (decLt n E)
     where
       go : Dec (n < E) → more has e n ≡ true
       go (yes l) = more-keeps has e n (below n l)
       go (no l) = f .between n (omega arith) h
+
+  -- one event that the demand allows
+  pub allowed-steps : {E : ℕ} {has : ℕ → Bool} {s : Resequencer} → Stands T E has s → ((n : ℕ) → n < E → has n ≡ true)
+      → (e : Event) → AllowedCall s has e → (w : Steps T E has s e) × FirstMissing (more has e) E (w .next)
+  allowed-steps {E} k below (packet n) ok = let b = ok E (record { below = below; missing = k .missing }) in packet-steps k n (b .0) (b .1)
+  allowed-steps k below (stray sn ticket) ok = let w = stray-steps k sn ticket ok in (w .0, still-missing k (stray sn ticket) (w .0) (w .1))
+  allowed-steps {E} {has} {s} k below (clockEnd sn) ok =
+      let w = refused-steps k sn (ok .0) (clock-refuses s sn (ok .0) (ok .1)) in
+      (w .0, still-missing k (clockEnd sn) (w .0) (w .1))
 
   any-list : (E : ℕ) (has : ℕ → Bool) (s : Resequencer) (es : List Event) → Stands T E has s → ((n : ℕ) → n < E → has n ≡ true)
       → Allowed T s has es → Outcome E has s es
@@ -82,22 +91,10 @@ module _ (T : ℕ → ℕ) where
     (unfold arrivedAfter in record { below = λ n h. below n (omega arith); missing = ap has (add-zero E) ∙ k .missing }),
     (unfold handedOn ticketsFrom in refl),
   )
-  any-list E has s (packet n ∷ es) k below ok =
-      let b = ok .0 E (record { below = below; missing = k .missing }) in
-      let w = packet-steps k n (b .0) (b .1) in
-      then-rest E has s (packet n) es (w .0) (w .1)
-      (any-list (w .0 .next) (more has (packet n)) (answer T s (packet n) .next) es (w .0 .stands) (below-next E has s (packet n) (w .0) (w .1) below) (ok .1))
-  any-list E has s (stray sn ticket ∷ es) k below ok =
-      let w = stray-steps k sn ticket (ok .0) in
-      let f = still-missing k (stray sn ticket) (w .0) (w .1) in
-      then-rest E has s (stray sn ticket) es (w .0) f
-      (any-list (w .0 .next) (more has (stray sn ticket)) (answer T s (stray sn ticket) .next) es (w .0 .stands)
-      (below-next E has s (stray sn ticket) (w .0) f below) (ok .1))
-  any-list E has s (clockEnd sn ∷ es) k below ok =
-      let w = refused-steps k sn (ok .0 .0) (clock-refuses s sn (ok .0 .0) (ok .0 .1)) in
-      let f = still-missing k (clockEnd sn) (w .0) (w .1) in
-      then-rest E has s (clockEnd sn) es (w .0) f
-      (any-list (w .0 .next) (more has (clockEnd sn)) (answer T s (clockEnd sn) .next) es (w .0 .stands) (below-next E has s (clockEnd sn) (w .0) f below) (ok .1))
+  any-list E has s (e ∷ es) k below ok =
+      let w = allowed-steps k below e (ok .0) in
+      then-rest E has s e es (w .0) (w .1)
+      (any-list (w .0 .next) (more has e) (answer T s e .next) es (w .0 .stands) (below-next E has s e (w .0) (w .1) below) (ok .1))
 
   from-fresh : (es : List Event) → AllowedList T es → (L : ℕ) × Lowest (arrived es) L × (handedOn T freshState es ≡ ticketsFrom T 0 L)
   from-fresh es ok =

@@ -7,7 +7,6 @@ use Prim.Native.Nat.{ℕ, suc, _+_, _^_, _≤_, _<_}
 use native.Mathlib.Decide.{decLt}
 use native.Mathlib.Omega.{arith}
 use lib.Dec.{eqb, ltb}
-use lib.ListN.{length-set}
 use lib.Seq.{getD-set-other}
 use borrow.Author.Tests.{eq-eqb, ne-eqb, eqb-true, eqb-false, lt-ltb, le-ltb, ltb-true}
 use Rattle.sequence.specs.declared.LinkNumber.{LinkNumber}
@@ -232,7 +231,6 @@ module _ (s : Resequencer) (n ticket : ℕ) (f : Sized s) (o : Ordered s) (l : n
   hold-sized = record {
     held-fits = setOf-lt 64 (λ j. member (s .held) j || eqb j n);
     clocks-fit = go (startsClock s n);
-    tickets-long = length-set (s .tickets) n ticket ∙ f .tickets-long;
   }
     where
       go : (b : Bool) → cond b (with 64 (s .clocks) n) (s .clocks) < 2 ^ 64

@@ -9,6 +9,9 @@ pub mod Standing
 pub mod Answers
 pub mod Steps
 pub mod Demand3
+pub mod Keeping
+pub mod AtMost
 pub mod Twins
 pub mod Rising
 pub mod Wanted
+pub mod Bytes

@@ -1,29 +1,30 @@
 -- Good order as facts about distances from NESN, in the form in which it is shown to last: the
--- distance e of HSNR is named (`Top`).
+-- distance e of HSNR is named (`Top`). These facts and the test `inOrder` give each other.
 -- Assumes nothing.
 use mathlib.Core.Path.{_≡_, refl, sym, ap, _∙_}
 use mathlib.Core.Bool.{Bool, true, false, true≢false}
 use mathlib.Core.Logic.{_⊎_, inl, inr, _≢_}
 use Prim.Native.Nat.{ℕ, suc, _+_, _%_, _^_, _≤_, _<_}
 use native.Mathlib.Nat.{mod-lt}
+use native.Mathlib.Numerals.{add-one}
+use native.Mathlib.Decide.{decLt}
 use native.Mathlib.Omega.{arith}
-use lib.Dec.{lit<}
-use lib.ListN.{length}
+use lib.Dec.{eqb, lit<}
+use borrow.Author.Tests.{eqb-true, eqb-false}
 use Rattle.sequence.specs.declared.LinkNumber.{LinkNumber}
 use Rattle.sequence.specs.Numbers.{link}
 use Rattle.wordset.specs.Sets.{member}
-use Rattle.wordset.proofs.Sets.{member-none}
+use Rattle.wordset.proofs.Sets.{member-none, member-past}
 use Rattle.wordset.proofs.Masks.{empty}
 use Rattle.resequencer.specs.declared.Resequencer.{Resequencer}
 use Rattle.resequencer.specs.State.{isHeld, hasClock, ticketOf, ahead, numberAt, meetsClock, inOrder}
-use Rattle.resequencer.proofs.Order.{InOrder, around, ahead-at, number-ahead, good-order as good-by-distance}
+use Rattle.resequencer.proofs.Order.{InOrder, around, number-lt, ahead-at, number-ahead, in-order as facts-of-order, good-order as good-by-distance}
 use Rattle.resequencer_claims.proofs.Places.{heldAt, clockAt, ticketAt, ahead-lt}
 
--- the state fits the types of the code
+-- the two sets fit their 64 bits
 pub record Sized (s : Resequencer) : Type 0 where
   pub held-fits : s .held < 2 ^ 64
   pub clocks-fit : s .clocks < 2 ^ 64
-  pub tickets-long : length (s .tickets) ≡ 64
 
 -- HSNR is the furthest held number, at distance e, and the run of held numbers that ends there has
 -- a clock
@@ -92,6 +93,45 @@ module _ (s : Resequencer) (o : Ordered s) where
 
   pub good-order : inOrder s ≡ true
   good-order = good-by-distance s facts
+
+-- ---- good order gives these facts
+
+pub ordered : (s : Resequencer) → s .held < 2 ^ 64 → inOrder s ≡ true → Ordered s
+ordered s f g = by-distance (facts-of-order s g)
+  where
+    -- HSNR is held, so it is one of the 64 numbers
+    hsnr-lt : isHeld s (s .hsnr .0) ≡ true → s .hsnr .0 < 64
+    hsnr-lt h = go (decLt (s .hsnr .0) 64)
+      where
+        go : Dec (s .hsnr .0 < 64) → s .hsnr .0 < 64
+        go (yes l) = l
+        go (no l) = never (sym h ∙ member-past 64 (s .held) (s .hsnr .0) f (omega arith))
+
+    top : InOrder s → (b : Bool) → eqb (s .held) 0 ≡ b → ((s .held ≡ 0) × (s .hsnr ≡ link 0)) ⊎ ((e : ℕ) × Top s e)
+    top o true q = let z : s .held ≡ 0 = eqb-true (s .held) 0 q in inl (z, ap link (o .idle z))
+    top o false q =
+        let z : s .held ≢ 0 = eqb-false (s .held) 0 q in
+        let at : numberAt s (ahead s (s .hsnr .0)) ≡ s .hsnr .0 = number-ahead s (s .hsnr .0) (hsnr-lt (o .hsnr-held z)) in
+        inr (
+          ahead s (s .hsnr .0),
+          record {
+            hsnr-at = ap link (sym at);
+            below = ahead-lt s (s .hsnr .0);
+            held = ap (isHeld s) at ∙ o .hsnr-held z;
+            furthest = o .furthest z;
+            meets = o .clock-met z;
+          },
+        )
+
+    by-distance : InOrder s → Ordered s
+    by-distance o = record {
+      nesn-lt = o .nesn-lt;
+      window = o .window;
+      on-held = λ d h. o .on-held d;
+      apart = λ d h p q. never (sym q ∙ ap (clockAt s) (add-one d) ∙ o .apart d p);
+      no-ticket = λ d h. o .tickets (numberAt s d) (number-lt s d);
+      top = top o (eqb (s .held) 0) refl;
+    }
 
 -- if nothing is held, no clock runs
 pub clocks-idle : (s : Resequencer) → Sized s → Ordered s → s .held ≡ 0 → s .clocks ≡ 0

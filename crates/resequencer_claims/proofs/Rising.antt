@@ -1,7 +1,7 @@
 -- With clock ends that hand on, the true numbers handed on strictly rise: each call hands on
 -- numbers from the one expected before it up to, not including, the one expected after it. A run
 -- with other tickets is always at the same true numbers, so it hands on the tickets of the same
--- numbers.
+-- numbers; and it is told the same numbers to expect, so the condition may be about either run.
 -- Assumes nothing.
 use mathlib.Core.Path.{_≡_, refl, sym, ap, ap₂, _∙_, subst}
 use mathlib.Core.Bool.{Bool, true, false, cond}
@@ -14,14 +14,15 @@ use Rattle.resequencer.specs.declared.Resequencer.{Resequencer}
 use Rattle.resequencer.specs.declared.Outcome.the-variants.{HandedOn, Refused}
 use Rattle.resequencer.specs.State.{freshState, inOrder}
 use Rattle.resequencer.specs.Events.{handed}
-use Rattle.resequencer_claims.specs.Events.{Event, packet, stray, clockEnd, answer, handedOn, nothing, more, arrivedAfter}
+use Rattle.resequencer_claims.specs.Events.{Event, packet, stray, clockEnd, callOf, answer, handedOn, nothing, more, arrivedAfter}
 use Rattle.resequencer_claims.specs.Rising.{FirstMissing, ExpectedNext, Near, NearList, StrictlyRise, Each, ownNumber, RisingClaim}
 use Rattle.resequencer_claims.proofs.Order.{good-order, never}
 use Rattle.resequencer_claims.proofs.Standing.{arrivedFrom, Stands}
 use Rattle.resequencer_claims.proofs.Answers.{ClockCases, clock-cases, clock-taken, clock-taken-says, clock-refused-says}
 use Rattle.resequencer_claims.proofs.Steps.{Steps, stray-steps, refused-steps, clock-steps, packet-steps, fresh-stands}
 use Rattle.resequencer_claims.proofs.Demand3.{more-keeps}
-use Rattle.resequencer_claims.proofs.Twins.{Twins, self-twins, arrive-like, clock-like, clocks-like}
+use Rattle.resequencer_claims.proofs.Keeping.{Kept, good as order-kept, keeps, fresh-kept}
+use Rattle.resequencer_claims.proofs.Twins.{Twins, self-twins, arrive-like, clock-like, outcome-like, clocks-like}
 
 -- ---- lists of numbers that strictly rise and have arrived
 
@@ -74,14 +75,19 @@ one-missing has from a b p q = go (decLt a b) (decLt b a)
 one-clock : (E c d sn : ℕ) → E ≤ c → c ≤ E + 31 → c % 64 ≡ sn → E ≤ d → d ≤ E + 31 → d % 64 ≡ sn → c ≡ d
 one-clock E c d sn a b e p q f = omega arith
 
--- ---- one call in two runs, one with the true numbers as tickets and one with any tickets T: both
--- expect the same number afterwards
+-- ---- one call in two runs, one with the true numbers as tickets and one with any tickets T: the
+-- states are twins, and both runs expect the same number afterwards
+
+twins-then : (T : ℕ → ℕ) (s u : Resequencer) (e : Event) → Twins s u → inOrder s ≡ true → inOrder u ≡ true
+    → Twins (answer ownNumber s e .next) (answer T u e .next)
+twins-then T s u (packet n) t g h = arrive-like s u (n % 64) (ownNumber n) (T n) t g h
+twins-then T s u (stray sn ticket) t g h = arrive-like s u sn ticket ticket t g h
+twins-then T s u (clockEnd sn) t g h = clock-like s u sn t g h
 
 record Both (T : ℕ → ℕ) (E : ℕ) (has : ℕ → Bool) (s u : Resequencer) (e : Event) : Type 0 where
   own : Steps ownNumber E has s e
   any : Steps T E has u e
   same-next : any .next ≡ own .next
-  twins : Twins (answer ownNumber s e .next) (answer T u e .next)
   told : ExpectedNext s (more has e) E e (own .next)
 
 module _ (T : ℕ → ℕ) {E : ℕ} {has : ℕ → Bool} {s u : Resequencer} (k : Stands ownNumber E has s) (j : Stands T E has u) (t : Twins s u) where
@@ -99,7 +105,6 @@ module _ (T : ℕ → ℕ) {E : ℕ} {has : ℕ → Bool} {s u : Resequencer} (k
         own = w .0;
         any = v .0;
         same-next = one-missing (more has (packet n)) E (v .0 .next) (w .0 .next) (v .1) (w .1);
-        twins = arrive-like s u (n % 64) (ownNumber n) (T n) t good fine;
         told = w .1;
       }
 
@@ -111,7 +116,6 @@ module _ (T : ℕ → ℕ) {E : ℕ} {has : ℕ → Bool} {s u : Resequencer} (k
         own = w .0;
         any = v .0;
         same-next = v .1 ∙ sym (w .1);
-        twins = arrive-like s u sn ticket ticket t good fine;
         told = w .1;
       }
 
@@ -130,7 +134,6 @@ module _ (T : ℕ → ℕ) {E : ℕ} {has : ℕ → Bool} {s u : Resequencer} (k
             own = w .0;
             any = v .0;
             same-next = one-missing (more has (clockEnd sn)) (suc (w .1)) (v .0 .next) (w .0 .next) (subst (λ (x : ℕ). FirstMissing (more has (clockEnd sn)) (suc x) (v .0 .next)) (sym q) (v .5)) (w .5);
-            twins = clock-like s u sn t good fine;
             told = (
               (λ why r. let x : HandedOn ≡ Refused why = sym (clock-taken-says s sn (a .2)) ∙ r in let z : _≡_ {A = ℕ} 0 1 = cc in absurd (omega arith)),
               (λ r. (w .1, w .2, w .3, w .4, w .5)),
@@ -143,7 +146,6 @@ module _ (T : ℕ → ℕ) {E : ℕ} {has : ℕ → Bool} {s u : Resequencer} (k
             own = w .0;
             any = v .0;
             same-next = v .1 ∙ sym (w .1);
-            twins = clock-like s u sn t good fine;
             told = (
               (λ why r. w .1),
               (λ r. let x : Refused (a .0) ≡ HandedOn = sym (clock-refused-says s sn (a .0) (a .1)) ∙ r in let z : _≡_ {A = ℕ} 0 1 = cc in absurd (omega arith)),
@@ -206,10 +208,33 @@ module _ (T : ℕ → ℕ) where
       let b = both E has s u e k j t (ok .0) in
       then-rest E has s u e es b
       (any-list (b .own .next) (more has e) (answer ownNumber s e .next) (answer T u e .next) es (b .own .stands)
-      (subst (λ (x : ℕ). Stands T x (more has e) (answer T u e .next)) (b .same-next) (b .any .stands)) (b .twins) (ok .1 (b .own .next) (b .told)))
+      (subst (λ (x : ℕ). Stands T x (more has e) (answer T u e .next)) (b .same-next) (b .any .stands)) (twins-then T s u e t (good-order s (k .order)) (good-order u (j .order))) (ok .1 (b .own .next) (b .told)))
+
+  -- ---- the condition on the run with the tickets T gives that on the run with the true numbers as
+  -- tickets
+
+  told-same : (s u : Resequencer) (has : ℕ → Bool) (E : ℕ) (e : Event) (next : ℕ) → Kept s → Kept u → Twins s u
+      → ExpectedNext s has E e next → ExpectedNext u has E e next
+  told-same s u has E (packet n) next k j t x = x
+  told-same s u has E (stray sn ticket) next k j t x = x
+  told-same s u has E (clockEnd sn) next k j t x =
+      let q = outcome-like s u sn t (order-kept s k) (order-kept u j) in
+      (λ why r. x .0 why (q ∙ r), λ r. x .1 (q ∙ r))
+
+  near-own : (s u : Resequencer) (has : ℕ → Bool) (E : ℕ) (es : List Event) → Kept s → Kept u → Twins s u
+      → NearList T u has E es → NearList ownNumber s has E es
+  unfolding NearList
+  near-own s u has E [] k j t ok = tt
+  near-own s u has E (e ∷ es) k j t ok = (
+    ok .0,
+    λ next x.
+        near-own (answer ownNumber s e .next) (answer T u e .next) (more has e) next es (keeps s k (callOf ownNumber e) .kept) (keeps u j (callOf T e) .kept)
+        (twins-then T s u e t (order-kept s k) (order-kept u j)) (ok .1 next (told-same s u (more has e) E e next k j t x)),
+  )
 
 pub rising : RisingClaim
-rising es ok =
+rising U es near =
+    let ok = near-own U freshState freshState nothing 0 es fresh-kept fresh-kept (self-twins freshState) near in
     let r = any-list ownNumber 0 nothing freshState freshState es (fresh-stands ownNumber) (fresh-stands ownNumber) (self-twins freshState) ok in
     record {
       rise = r .rise;

@@ -10,7 +10,7 @@ use native.Mathlib.Nat.{mod-lt, mod-add-mod}
 use native.Mathlib.Decide.{decLt}
 use native.Mathlib.Omega.{arith}
 use lib.Dec.{eqb, lit<}
-use lib.ListN.{getD, set}
+use lib.ListN.{length, getD, set, length-set}
 use lib.Seq.{getD-set-same, getD-set-other}
 use borrow.Author.Tests.{eq-eqb, ne-eqb, eqb-true, eqb-false}
 use Rattle.sequence.specs.declared.LinkNumber.{LinkNumber}
@@ -19,7 +19,7 @@ use Rattle.resequencer.specs.declared.Resequencer.{Resequencer}
 use Rattle.resequencer.specs.State.{isHeld, ahead, numberAt}
 use Rattle.resequencer.specs.Events.{advance, hold, heldTickets}
 use Rattle.resequencer.proofs.Order.{ahead-at}
-use Rattle.resequencer_claims.proofs.Places.{heldAt, ticketAt, same-number, held-after-hold, held-near, ticket-near}
+use Rattle.resequencer_claims.proofs.Places.{heldAt, ticketAt, same-number, held-after-hold, held-near, ticket-near, tickets-length}
 use Rattle.resequencer.proofs.Bounds.{past-window}
 use Rattle.resequencer_claims.proofs.Order.{facts, Sized, Ordered, never}
 use Rattle.resequencer_claims.proofs.Holding.{hold-sized, hold-in-order}
@@ -42,6 +42,7 @@ arrivedFrom-ext has now n (suc m) e =
 pub record Stands (T : ℕ → ℕ) (E : ℕ) (has : ℕ → Bool) (s : Resequencer) : Type 0 where
   pub sized : Sized s
   pub order : Ordered s
+  pub tickets-long : length (s .tickets) ≡ 64
   pub nesn-at : s .nesn ≡ link (E % 64)
   pub held-is : (d : ℕ) → d ≤ 31 → heldAt s d ≡ has (E + d)
   pub missing : has E ≡ false
@@ -53,6 +54,7 @@ pub stands-ext : {T : ℕ → ℕ} {E : ℕ} {has now : ℕ → Bool} {s : Reseq
 stands-ext {T} {E} {has} {now} {s} e k = record {
   sized = k .sized;
   order = k .order;
+  tickets-long = k .tickets-long;
   nesn-at = k .nesn-at;
   held-is = λ d h. k .held-is d h ∙ sym (e (E + d) (omega arith));
   missing = e E (omega arith) ∙ k .missing;
@@ -77,6 +79,7 @@ module _ {T : ℕ → ℕ} {E : ℕ} {has : ℕ → Bool} {s : Resequencer} (k :
   hold-stands now d l h new e = record {
     sized = hold-sized s n (T (E + d)) (k .sized) (k .order) small early near free;
     order = hold-in-order s n (T (E + d)) (k .sized) (k .order) small early near free;
+    tickets-long = same-length ∙ k .tickets-long;
     nesn-at = same-nesn ∙ k .nesn-at;
     held-is = λ i b. held-after-hold s n (T (E + d)) i small (omega arith) ∙ ap₂ _||_ (k .held-is i b) (same i) ∙ sym (e (E + i));
     missing = e E ∙ ap₂ _||_ (k .missing) (ne-eqb (E + d) E (λ q. omega arith));
@@ -105,6 +108,9 @@ module _ {T : ℕ → ℕ} {E : ℕ} {has : ℕ → Bool} {s : Resequencer} (k :
       same-nesn : hold s ((E + d) % 64) (T (E + d)) .nesn ≡ s .nesn
       same-nesn = unfold hold in refl
 
+      same-length : length (hold s ((E + d) % 64) (T (E + d)) .tickets) ≡ length (s .tickets)
+      same-length = unfold hold in length-set (s .tickets) ((E + d) % 64) (T (E + d))
+
       same : (i : ℕ) → eqb i (ahead s ((E + d) % 64)) ≡ eqb (E + d) (E + i)
       same i = ap (eqb i) at ∙ go (eqb i d) refl
         where
@@ -120,7 +126,7 @@ module _ {T : ℕ → ℕ} {E : ℕ} {has : ℕ → Bool} {s : Resequencer} (k :
       ticket i b r true q =
           let z : i ≡ d = eqb-true i d q in
           ticket-place i ∙ ap (λ (x : ℕ). getD (set (s .tickets) ((E + d) % 64) (T (E + d))) x 0) (ap (numberAt s) z ∙ expected k d)
-          ∙ getD-set-same (s .tickets) ((E + d) % 64) (T (E + d)) 0 (omega (arith, k .sized .tickets-long, small)) ∙ ap (λ (x : ℕ). T (E + x)) (sym z)
+          ∙ getD-set-same (s .tickets) ((E + d) % 64) (T (E + d)) 0 (omega (arith, k .tickets-long, small)) ∙ ap (λ (x : ℕ). T (E + x)) (sym z)
       ticket i b r false q =
           ticket-place i
           ∙ getD-set-other (s .tickets) ((E + d) % 64) (numberAt s i) (T (E + d)) 0
@@ -139,6 +145,7 @@ module _ {T : ℕ → ℕ} {E : ℕ} {has : ℕ → Bool} {s : Resequencer} (k :
   advance-stands now m l h gap e = record {
     sized = advance-sized s m;
     order = advance-in-order s m (k .order) l h gap;
+    tickets-long = tickets-length s m;
     nesn-at = nesn-then;
     held-is = λ d b. held-near s m d (omega arith) ∙ held d b (decLt (m + d) 32);
     missing = e (E + m) (omega arith) ∙ gone (decLt m 32);

@@ -229,7 +229,7 @@ module _ {T : ℕ → ℕ} {E : ℕ} {has : ℕ → Bool} {s : Resequencer} (k :
 
 pub fresh-stands : (T : ℕ → ℕ) → Stands T 0 nothing freshState
 fresh-stands T = record {
-  sized = record { held-fits = pow-pos 64; clocks-fit = pow-pos 64; tickets-long = length-replicate {A = ℕ} 64 0 };
+  sized = record { held-fits = pow-pos 64; clocks-fit = pow-pos 64 };
   order = record {
     nesn-lt = lit< tt;
     window = λ d h r. never (sym r ∙ member-none (numberAt freshState d));
@@ -238,6 +238,7 @@ fresh-stands T = record {
     no-ticket = λ d h r. getD-replicate {A = ℕ} 64 (numberAt freshState d) 0 0 (number-lt freshState d);
     top = inl (refl, refl);
   };
+  tickets-long = length-replicate {A = ℕ} 64 0;
   nesn-at = refl;
   held-is = λ d h. member-none (numberAt freshState d);
   missing = refl;

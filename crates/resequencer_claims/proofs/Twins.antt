@@ -93,6 +93,14 @@ module _ (s : Resequencer) (ts : List ℕ) where
         go Done = clock-twins n
         go (Refused why) = plain-twins (NotTaken why) (NotTaken why) s (retag s ts) same-sets
 
+    same-outcome : (n : ℕ) → clockEndOf s n .outcome ≡ clockEndOf (retag s ts) n .outcome
+    unfolding clockEndOf clockEndVerdict takeClockEnd handOn plain
+    same-outcome n = rw (g, h) (go (check (inField 64 n) OutOfRange (check (hasClock s n) NoClock Done)))
+      where
+        go : (v : Verdict) → clockEndBy v s n .outcome ≡ clockEndBy v (retag s ts) n .outcome
+        go Done = refl
+        go (Refused why) = refl
+
 -- ---- for any twins in good order
 
 pub arrive-like : (s u : Resequencer) (n t x : ℕ) → Twins s u → inOrder s ≡ true → inOrder u ≡ true → Twins (arriveOf s n t .next) (arriveOf u n x .next)
@@ -104,6 +112,11 @@ pub clock-like : (s u : Resequencer) (n : ℕ) → Twins s u → inOrder s ≡ t
 clock-like s u n w g h =
     subst (λ (y : Resequencer). Twins (clockEndOf s n .next) (clockEndOf y n .next)) (sym (w .same))
     (clock-end-twins s (w .tags) g (sym (ap inOrder (w .same)) ∙ h) n)
+
+pub outcome-like : (s u : Resequencer) (n : ℕ) → Twins s u → inOrder s ≡ true → inOrder u ≡ true → clockEndOf s n .outcome ≡ clockEndOf u n .outcome
+outcome-like s u n w g h =
+    subst (λ (y : Resequencer). clockEndOf s n .outcome ≡ clockEndOf y n .outcome) (sym (w .same))
+    (same-outcome s (w .tags) g (sym (ap inOrder (w .same)) ∙ h) n)
 
 pub clocks-like : (s u : Resequencer) → Twins s u → (n : ℕ) → hasClock u n ≡ hasClock s n
 clocks-like s u w n = ap (λ (y : Resequencer). hasClock y n) (w .same)

@@ -74,6 +74,7 @@ pub record Rising (es : List Event) : Type 0 where
   -- order
   pub any-tickets : (T : ℕ → ℕ) → handedOn T freshState es ≡ map T (numbersHandedOn es)
 
--- "The number expected is 0 at first."
+-- "The number expected is 0 at first." The condition is about the run that the caller has, with the
+-- caller's own tickets T, whatever they are
 abbrev pub RisingClaim : Type 0
-RisingClaim = (es : List Event) → NearList ownNumber freshState nothing 0 es → Rising es
+RisingClaim = (T : ℕ → ℕ) (es : List Event) → NearList T freshState nothing 0 es → Rising es

@@ -1,12 +1,13 @@
 -- The claims of document 01, "The resequencer", "Wanted over any accepted events from a fresh
 -- state", except the last one (Rising.antt). Here they are claimed over any calls, refused ones
--- included. proofs/Wanted.antt proves `Wanted cs` for every list of calls cs.
+-- included. proofs/Wanted.antt proves `Wanted cs` for every list of calls cs, proofs/AtMost.antt
+-- `AtMost32` and proofs/Keeping.antt `KeepsOrder`.
 -- Assumes nothing.
 use mathlib.Core.Path.{_≡_}
 use mathlib.Core.Bool.{true, false}
 use mathlib.Core.Logic.{_⊎_}
 use mathlib.Core.List.{List, [], _∷_}
-use Prim.Native.Nat.{ℕ, _+_, _≤_, _<_}
+use Prim.Native.Nat.{ℕ, _+_, _^_, _≤_, _<_}
 use Rattle.wordset.specs.Sets.{count}
 use Rattle.resequencer.specs.declared.Resequencer.{Resequencer}
 use Rattle.resequencer.specs.declared.Outcome.{Outcome}
@@ -49,6 +50,20 @@ unfoldable pub Among : ℕ → List ℕ → Type 0
 Among n [] = ⊥
 Among n (m ∷ ms) = (n ≡ m) ⊎ Among n ms
 
+-- "At most 32 tickets leave in one event": of every state, damaged ones too, and every call
+abbrev pub AtMost32 : Type 0
+AtMost32 = (s : Resequencer) (c : Call) → answerTo s c .count ≤ 32
+
+-- one call keeps good order, in any state in good order and not only in one that calls from a fresh
+-- state have made. The two sets fit their 64 bits, as in every state that the code can hold; else
+-- the claim is false. With NESN 0, HSNR 69, the held set {5, 69} and the clock set {5} the state is
+-- in good order, and the arrival of 0 leaves HSNR 69 and the held set {5}. In a fresh state with
+-- the clock set {64}, the arrival of 1 starts no clock
+abbrev pub KeepsOrder : Type 0
+KeepsOrder =
+    (s : Resequencer) (c : Call) → s .held < 2 ^ 64 → s .clocks < 2 ^ 64
+    → inOrder s ≡ true → inOrder (answerTo s c .next) ≡ true
+
 pub record Wanted (cs : List Call) : Type 0 where
   -- "good order lasts"
   pub in-order : inOrder (stateAfter cs) ≡ true
@@ -63,5 +78,7 @@ pub record Wanted (cs : List Call) : Type 0 where
   pub drained : (sns : List ℕ)
       → ((n : ℕ) → n < 64 → hasClock (stateAfter cs) n ≡ true → Among n sns ⊎ (hasClock (afterCalls (stateAfter cs) (clockEnds sns)) n ≡ false))
       → afterCalls (stateAfter cs) (clockEnds sns) .held ≡ 0
+  -- "At most 32 tickets leave in one event": in the next call, whatever it is
+  pub at-most-32 : (c : Call) → answerTo (stateAfter cs) c .count ≤ 32
   -- "arrivals taken .. equal tickets handed on plus numbers held"
   pub total : arrivalsTaken freshState cs ≡ ticketCount freshState cs + count 64 (stateAfter cs .held)

@@ -1,17 +1,19 @@
 -- An update, case by case.
 -- Assumes nothing.
 use mathlib.Core.Path.{_≡_, refl, sym, ap, ap₂, _∙_}
-use mathlib.Core.Bool.{Bool, true, false, false≢true}
+use mathlib.Core.Bool.{Bool, true, false, false≢true, _&&_}
 use mathlib.Core.List.{List, []}
 use Prim.Native.Nat.{ℕ, _≤_, _<_}
+use lib.Dec.{leb}
 use lib.ListN.{length}
 use borrow.Author.Tests.{lt-leb, le-leb}
 use Rattle.refusal.specs.declared.Refusal.the-variants.{RouteListMalformed}
 use Rattle.refusal.specs.declared.Verdict.the-variants.{Done, Refused}
+use Rattle.refusal.specs.Numbers.{verdictNumber, check}
 use Rattle.route.specs.declared.Table.{Table}
 use Rattle.route.specs.declared.Updated.{Updated}
 use Rattle.route.specs.Entries.{Parsed, cut, whole, entriesIn}
-use Rattle.route.specs.Updating.{those, tableAfter, lostBetween, reported, updateBy, updateOf}
+use Rattle.route.specs.Updating.{those, tableAfter, lostBetween, reported, isWhole, updateVerdict, updateBy, updateOf}
 use Rattle.route.specs.Parts.{Change, Report, report, noChange, collectedBy, Found, settled, reportOf, lostIn}
 use Rattle.route.proofs.Joining.{settled-after}
 
@@ -46,3 +48,14 @@ module _ (t : Table) (xs : List ℕ) where
         go (whole es) q d g =
             let after : codes ≡ tableAfter es t .codes = n ∙ ap (settled (t .codes)) g ∙ settled-after es t in
             ap (answer codes) l ∙ ap (λ (x : List ℕ). answer x (reportOf (lostBetween t (record { codes = x })))) after ∙ sym (update-short (whole es) h q)
+
+-- ---- the number of the answer
+
+number-by : (b : Bool) (p : Parsed) (t : Table) → verdictNumber (updateBy b p t .verdict) ≡ verdictNumber (check (b && isWhole p) RouteListMalformed Done)
+number-by true (whole es) t = refl
+number-by true cut t = refl
+number-by false p t = refl
+
+pub update-number : (t : Table) (xs : List ℕ) (r : Updated) → r ≡ updateOf t xs → (r ≡ updateOf t xs) × (verdictNumber (r .verdict) ≡ verdictNumber (updateVerdict xs))
+unfolding updateOf
+update-number t xs r e = (e, ap (λ (x : Updated). verdictNumber (x .verdict)) e ∙ number-by (leb (length xs) 255) (entriesIn xs) t)

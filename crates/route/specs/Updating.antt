@@ -9,6 +9,7 @@ use lib.ListN.{length, getD, replicate}
 use Rattle.refusal.specs.declared.Refusal.the-variants.{RouteListMalformed}
 use Rattle.refusal.specs.declared.Verdict.{Verdict}
 use Rattle.refusal.specs.declared.Verdict.the-variants.{Done, Refused}
+use Rattle.refusal.specs.Numbers.{check}
 use Rattle.lists.specs.Lists.{listFrom}
 use Rattle.wordset.specs.Sets.{member, setOf, count}
 use Rattle.route_choice.specs.declared.LastUsed.{LastUsed}
@@ -62,6 +63,15 @@ lostBetween before after = those 256 (isLost before after)
 -- the unused ones are 0
 abbrev pub reported : Verdict → Table → List ℕ → Updated
 reported verdict after lost = record { verdict = verdict; next = after; count = length lost; lost = lost ++ replicate (256 - length lost) 0 }
+
+-- whether every entry of a list is whole
+abbrev pub isWhole : Parsed → Bool
+isWhole cut = false
+isWhole (whole es) = true
+
+-- the check of a list: 6, "route list over 255 bytes, or its last entry is cut"
+abbrev pub updateVerdict : List ℕ → Verdict
+updateVerdict list = check (leb (length list) 255 && isWhole (entriesIn list)) RouteListMalformed Done
 
 -- the answer, from whether the list has at most 255 bytes and from its entries: "6 is the only
 -- refusal", and it changes and reports nothing

@@ -8,8 +8,10 @@ ghost use lib.Dec.{eqb};
 ghost use lib.ListN.{replicate};
 ghost use Rattle.refusal.specs.declared.Refusal.the-variants.{RouteListMalformed};
 ghost use Rattle.refusal.specs.declared.Verdict.the-variants.{Refused as RefusedVerdict};
+ghost use Rattle.refusal.specs.Numbers.{verdictNumber, valueBy};
+ghost use Rattle.route_choice.specs.Choosing.{choiceNumber, choiceCode, usable, chooseVerdict, chosenCode};
 ghost use Rattle.route.specs.Entries.{entriesIn};
-ghost use Rattle.route.specs.Updating.{emptyTable, codesOf, countOf, chooseFor, those, reported, updateOf};
+ghost use Rattle.route.specs.Updating.{emptyTable, codesOf, countOf, chooseFor, those, reported, updateVerdict, updateOf};
 ghost use Rattle.route.specs.Parts.{mark, change, taken, takenOf, collectedBy, Found, settled, report, reportOf, noted, lostIn, NoneFrom};
 use refusal::Refusal;
 use refusal::Verdict;
@@ -234,6 +236,8 @@ impl Table {
     // and its refusals.
     pub fn choose_for(self, address: u8, last: LastUsed, failed: u16) -> Choice
         ensures { λ r. ⌜ r ≡ chooseFor self address last failed ⌝ }
+        ensures number { λ r. ⌜ choiceNumber r ≡ verdictNumber (chooseVerdict (codesOf self address) last failed) ⌝ }
+        ensures value { λ r. ⌜ choiceCode r ≡ valueBy (chooseVerdict (codesOf self address) last failed) (chosenCode (usable (codesOf self address) failed) last) ⌝ }
     {
         route_choice::choose(self.codes_of(address), last, failed)
     }
@@ -243,6 +247,7 @@ impl Table {
     // its last entry is cut.
     pub fn update(self, list: &[u8]) -> Updated
         ensures { λ r. ⌜ r ≡ updateOf self (now (list .entry)) ⌝ }
+        ensures number { λ r. ⌜ verdictNumber (r .verdict) ≡ verdictNumber (updateVerdict (now (list .entry))) ⌝ }
     {
         if 255 < list.len() {
             return refuse(self);

@@ -17,15 +17,13 @@ pub record RoundTrips : Type 0 where
   pub read-back : (t : Table) → IsTable t → tableIn (tableBytes t) ≡ t
   pub written-back : (b : List ℕ) → length b ≡ 512 → Below 256 b → tableBytes (tableIn b) ≡ b
 
--- an answer whose lowest byte is not 0 is a refusal: its value is 0 (of a choice, only the code is
--- 0), and the lent bytes are unchanged
+-- an answer whose lowest byte is not 0 is a refusal: its value is 0, and the lent bytes are
+-- unchanged
 pub record RefusalsChangeNothing : Type 0 where
   pub empty : (b : List ℕ) → emptyAnswer b % 256 ≢ 0 → (emptyAnswer b / 256 ≡ 0) × (emptyBytes b ≡ b)
   pub codes : (b : List ℕ) (a : ℕ) → codesAnswer b a % 256 ≢ 0 → codesAnswer b a / 256 ≡ 0
   pub count : (b : List ℕ) (a : ℕ) → countAnswer b a % 256 ≢ 0 → countAnswer b a / 256 ≡ 0
-  -- a refused choice names no code, in the second byte; the two bytes above it may hold the
-  -- clearing codes of refusal 8
-  pub choose : (b : List ℕ) (a last failed : ℕ) → chooseAnswer b a last failed % 256 ≢ 0 → chooseAnswer b a last failed / 256 % 256 ≡ 0
-  pub choose-among : (codes last failed : ℕ) → chooseAmongAnswer codes last failed % 256 ≢ 0 → chooseAmongAnswer codes last failed / 256 % 256 ≡ 0
-  pub update : (b list lost : List ℕ) → Below 256 b → updateAnswer b list (length lost) % 256 ≢ 0
+  pub choose : (b : List ℕ) (a last failed : ℕ) → chooseAnswer b a last failed % 256 ≢ 0 → chooseAnswer b a last failed / 256 ≡ 0
+  pub choose-among : (codes last failed : ℕ) → chooseAmongAnswer codes last failed % 256 ≢ 0 → chooseAmongAnswer codes last failed / 256 ≡ 0
+  pub update : (b list lost : List ℕ) → updateAnswer b list (length lost) % 256 ≢ 0
       → (updateAnswer b list (length lost) / 256 ≡ 0) × (updateBytes b list (length lost) ≡ b) × (updateLost b list lost ≡ lost)

@@ -1,24 +1,22 @@
 -- The table of interrogators in bytes that a caller lends: document 01, "Interrogators and ground
 -- addresses", for callers that use only numbers. An answer is one number: the refusal number, 0 for
--- done, plus 256 times the value. After a refusal the value is 0, with one exception: with refusal
--- 8 a choice has the two clearing codes in it (`choiceAnswer`).
+-- done, plus 256 times the value. After a refusal the value is 0.
 -- Assumes nothing.
-use mathlib.Core.Bool.{Bool, cond, _&&_}
+use mathlib.Core.Bool.{Bool, cond}
 use mathlib.Core.List.{List}
 use Prim.Native.Nat.{ℕ, _+_, _*_, min}
-use lib.Dec.{eqb}
+use lib.Dec.{leb, eqb}
 use lib.ListN.{length}
-use Rattle.refusal.specs.declared.Refusal.the-variants.{NotInOrder}
+use Rattle.refusal.specs.declared.Refusal.the-variants.{OutputTooShort, NotInOrder}
 use Rattle.refusal.specs.declared.Verdict.{Verdict}
 use Rattle.refusal.specs.declared.Verdict.the-variants.{Done, Refused}
-use Rattle.refusal.specs.Numbers.{numberOf, verdictNumber}
+use Rattle.refusal.specs.Numbers.{numberOf, verdictNumber, valueBy, check}
+use Rattle.lists.specs.Lists.{over}
 use Rattle.little.specs.Little.{littleList, listBytes}
 use Rattle.route_choice.specs.declared.LastUsed.{LastUsed}
 use Rattle.route_choice.specs.declared.LastUsed.the-variants.{Code, Nothing as NoCode}
 use Rattle.route_choice.specs.declared.Choice.{Choice}
-use Rattle.route_choice.specs.declared.Clearing.{Clearing}
-use Rattle.route_choice.specs.declared.Clearing.the-variants.{Codes, Nothing as NoCodes}
-use Rattle.route_choice.specs.Choosing.{choiceNumber, choiceCode, clearingOf, chooseOf}
+use Rattle.route_choice.specs.Choosing.{choiceNumber, choiceCode, chooseOf}
 use Rattle.route.specs.declared.Table.{Table}
 use Rattle.route.specs.declared.Updated.{Updated}
 use Rattle.route.specs.Updating.{emptyTable, codesOf, countOf, chooseFor, updateOf}
@@ -36,8 +34,7 @@ tableIn b = record { codes = littleList 2 256 b }
 abbrev pub tableBytes : Table → List ℕ
 tableBytes t = listBytes 2 (t .codes)
 
--- 14, "the state is not in good order": the answer if lent bytes do not have the right length (512
--- for a table)
+-- 14, "the state is not in good order": the answer if a table does not have 512 bytes
 abbrev pub noTable : ℕ
 noTable = numberOf NotInOrder
 
@@ -66,21 +63,9 @@ countAnswer b a = cond (isTable b) (256 * countOf (tableIn b) a) noTable
 abbrev pub lastIn : ℕ → LastUsed
 lastIn n = cond (eqb n 65535) NoCode (Code (min n 255))
 
--- the clearing cause CC: 0 if there is none
-abbrev pub causeOf : Clearing → ℕ
-causeOf (Codes cause diagnostic) = cause
-causeOf NoCodes = 0
-
--- the diagnostic code DC: 0 if there is none
-abbrev pub diagnosticOf : Clearing → ℕ
-diagnosticOf (Codes cause diagnostic) = diagnostic
-diagnosticOf NoCodes = 0
-
--- the refusal number, the code, the clearing cause and the diagnostic code, a byte each, the lowest
--- first. The code is 0 with any refusal; the two clearing codes are 141 and 162 with refusal 8, and
--- 0 otherwise.
+-- a choice as one number: the value is the code
 abbrev pub choiceAnswer : Choice → ℕ
-choiceAnswer c = choiceNumber c + 256 * choiceCode c + 65536 * causeOf (clearingOf c) + 16777216 * diagnosticOf (clearingOf c)
+choiceAnswer c = choiceNumber c + 256 * choiceCode c
 
 -- the choice for address a; `failed` is the set of the failed codes
 abbrev pub chooseAnswer : List ℕ → ℕ → ℕ → ℕ → ℕ
@@ -92,30 +77,32 @@ chooseAmongAnswer codes last failed = choiceAnswer (chooseOf codes (lastIn last)
 
 -- ---- the update
 
--- the lent bytes have the right lengths: 512 for the table, and 256 places for the addresses
--- reported. Otherwise the call is refused with 14.
-abbrev pub canUpdate : List ℕ → ℕ → Bool
-canUpdate b places = isTable b && eqb places 256
-
 -- the update of the table in these bytes
 unfoldable pub updateIn : List ℕ → List ℕ → Updated
 updateIn b list = updateOf (tableIn b) list
 
+-- the checks in the order 14, 5, 6: the table has 512 bytes, there are 256 places for the addresses
+-- reported, and then that of the update
+unfoldable pub updateChecks : List ℕ → List ℕ → ℕ → Verdict
+updateChecks b list places =
+    check (isTable b) NotInOrder
+    (check (leb 256 places) OutputTooShort
+    (updateIn b list .verdict))
+
 -- the value is the count of the addresses that lost their last code, 0 after a refusal
 unfoldable pub updateAnswer : List ℕ → List ℕ → ℕ → ℕ
-updateAnswer b list places =
-    cond (canUpdate b places) (verdictNumber (updateIn b list .verdict) + 256 * updateIn b list .count) noTable
+updateAnswer b list places = verdictNumber (updateChecks b list places) + 256 * valueBy (updateChecks b list places) (updateIn b list .count)
 
--- the table's bytes afterwards; a refused update has the same table as before
-unfoldable pub updateBytes : List ℕ → List ℕ → ℕ → List ℕ
-updateBytes b list places = cond (canUpdate b places) (tableBytes (updateIn b list .next)) b
-
--- `written` if the update is done, `out` if it is refused
+-- `written` if the update is done, `kept` if it is refused
 abbrev pub ifDone : Verdict → List ℕ → List ℕ → List ℕ
-ifDone Done written out = written
-ifDone (Refused why) written out = out
+ifDone Done written kept = written
+ifDone (Refused why) written kept = kept
 
--- the report afterwards: all 256 places are written, the unused ones with 0; a refusal leaves it as
--- it was
+-- the table's bytes afterwards
+unfoldable pub updateBytes : List ℕ → List ℕ → ℕ → List ℕ
+updateBytes b list places = ifDone (updateChecks b list places) (tableBytes (updateIn b list .next)) b
+
+-- the report afterwards: the first 256 places are written, the unused ones of them with 0, and
+-- places past them keep what they held
 unfoldable pub updateLost : List ℕ → List ℕ → List ℕ → List ℕ
-updateLost b list lost = cond (canUpdate b (length lost)) (ifDone (updateIn b list .verdict) (updateIn b list .lost) lost) lost
+updateLost b list lost = ifDone (updateChecks b list (length lost)) (over (updateIn b list .lost) lost) lost

@@ -4,18 +4,17 @@ use mathlib.Core.Path.{_≡_, refl, ap, _∙_}
 use mathlib.Core.Logic.{_≢_}
 use mathlib.Core.Bool.{Bool, true, false, cond}
 use Prim.Native.Nat.{ℕ, _<_, _≤_}
-use borrow.Author.Tests.{lt-ltb, le-ltb, eq-eqb, ne-eqb}
+use borrow.Author.Tests.{lt-ltb, le-ltb}
 use Rattle.refusal.specs.declared.Refusal.the-variants.{OutOfRange, NoInterrogator, AllFailed}
 use Rattle.wordset.specs.Sets.{member, lowest}
 use Rattle.route_choice.specs.declared.LastUsed.the-variants.{Code, Nothing as NoCode}
 use Rattle.route_choice.specs.declared.Choice.the-variants.{Chosen, Refused as NotChosen}
 use Rattle.route_choice.specs.Choosing.{usable, chooseVerdict, chooseOf}
-use Rattle.route_choice.proofs.Meaning.{of-usable, lowest-usable, must-choose}
+use Rattle.route_choice.proofs.Meaning.{of-usable, lowest-usable, must-choose, gives-range, gives-none, gives-failed}
 
 module _ (codes failed : ℕ) where
   pub out-of-range : (c : ℕ) → 16 ≤ c → chooseOf codes (Code c) failed ≡ NotChosen OutOfRange
-  unfolding chooseOf chooseVerdict
-  out-of-range c h = simp (le-ltb c 16 h)
+  out-of-range c h = gives-range codes failed (Code c) (le-ltb c 16 h)
 
   pub last-used : (c : ℕ) → c < 16 → member (usable codes failed) c ≡ true → chooseOf codes (Code c) failed ≡ Chosen c
   last-used c h m =
@@ -30,9 +29,7 @@ module _ (codes failed : ℕ) where
   lowest-chosen n = must-choose codes failed NoCode _ refl (lowest-usable codes failed n)
 
   pub no-interrogator : codes ≡ 0 → chooseOf codes NoCode failed ≡ NotChosen NoInterrogator
-  unfolding chooseOf chooseVerdict
-  no-interrogator e = simp (eq-eqb codes 0 e)
+  no-interrogator e = gives-none codes failed NoCode refl e
 
   pub all-failed : codes ≢ 0 → usable codes failed ≡ 0 → chooseOf codes NoCode failed ≡ NotChosen AllFailed
-  unfolding chooseOf chooseVerdict
-  all-failed n e = simp (ne-eqb codes 0 n, eq-eqb (usable codes failed) 0 e)
+  all-failed n e = gives-failed codes failed NoCode refl n e

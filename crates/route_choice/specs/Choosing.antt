@@ -59,6 +59,16 @@ chooseBy (Refused why) code = NotChosen why
 unfoldable pub chooseOf : ℕ → LastUsed → ℕ → Choice
 chooseOf codes last failed = chooseBy (chooseVerdict codes last failed) (chosenCode (usable codes failed) last)
 
+-- the values of the clearing codes: the clearing cause CC and the diagnostic code DC, 0 if there
+-- are none
+abbrev pub clearingCause : Clearing → ℕ
+clearingCause (Codes cause diagnostic) = cause
+clearingCause NoCodes = 0
+
+abbrev pub clearingDiagnostic : Clearing → ℕ
+clearingDiagnostic (Codes cause diagnostic) = diagnostic
+clearingDiagnostic NoCodes = 0
+
 -- "For 8 on a call the clearing codes are CC 141, DC 162"; there are none for a code that is chosen
 -- or for any other refusal
 abbrev pub clearingOf : Choice → Clearing

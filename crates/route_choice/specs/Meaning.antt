@@ -1,12 +1,12 @@
 -- What a choice means (document 01, "Interrogators and ground addresses", second paragraph): a
 -- chosen code is present and has not failed; it is the last-used one if that is usable, else the
--- lowest usable one; and each of the refusals 1, 8 and 15 is given only for its reason.
+-- lowest usable one; and each of the refusals 1, 8 and 15 is given exactly for its reason.
 -- proofs/Meaning.antt proves it (`choice-means`).
 -- Assumes nothing.
 use mathlib.Core.Path.{_≡_}
 use mathlib.Core.Logic.{_≢_}
 use mathlib.Core.Bool.{true, false}
-use Prim.Native.Nat.{ℕ, _<_}
+use Prim.Native.Nat.{ℕ, _^_, _<_}
 use Rattle.refusal.specs.declared.Refusal.the-variants.{OutOfRange, NoInterrogator, AllFailed}
 use Rattle.wordset.specs.Sets.{member}
 use Rattle.route_choice.specs.declared.LastUsed.{LastUsed}
@@ -28,12 +28,19 @@ pub record ChoiceClaim (codes : ℕ) (last : LastUsed) (failed : ℕ) : Type 0 w
   -- code c
   pub else-lowest : (c d : ℕ) → ((e : ℕ) → last ≡ Code e → Usable codes failed e → ⊥) → chooseOf codes last failed ≡ Chosen c → Usable codes failed d
       → d < c → ⊥
-  -- refusal 1 is given only for a last-used code over 15
-  pub out-of-range : chooseOf codes last failed ≡ NotChosen OutOfRange → lastInRange last ≡ false
-  -- refusal 8 is given only if the set of codes is empty
+  -- refusal 1 is given exactly for a last-used code over 15
+  pub out-of-range : chooseOf codes last failed ≡ NotChosen OutOfRange → (c : ℕ) × (last ≡ Code c) × (15 < c)
+  pub out-of-range-given : (c : ℕ) → last ≡ Code c → 15 < c → chooseOf codes last failed ≡ NotChosen OutOfRange
+  -- else refusal 8 is given exactly if the set of codes is empty
   pub no-interrogator : chooseOf codes last failed ≡ NotChosen NoInterrogator → (c : ℕ) → member codes c ≡ true → ⊥
-  -- refusal 15 is given only if no code is usable
+  pub no-interrogator-given : lastInRange last ≡ true → ((c : ℕ) → member codes c ≡ false) → chooseOf codes last failed ≡ NotChosen NoInterrogator
+  -- else refusal 15 is given exactly if no code is usable; a code is then present, and it has
+  -- failed
   pub all-failed : chooseOf codes last failed ≡ NotChosen AllFailed → (c : ℕ) → Usable codes failed c → ⊥
+  pub all-failed-present : codes < 2 ^ 16 → chooseOf codes last failed ≡ NotChosen AllFailed
+      → (c : ℕ) × (c < 16) × (member codes c ≡ true) × (member failed c ≡ true)
+  pub all-failed-given : (c : ℕ) → lastInRange last ≡ true → member codes c ≡ true → ((d : ℕ) → Usable codes failed d → ⊥)
+      → chooseOf codes last failed ≡ NotChosen AllFailed
   -- a refusal names no code
   pub none-named : choiceNumber (chooseOf codes last failed) ≢ 0 → choiceCode (chooseOf codes last failed) ≡ 0
   -- if the last-used code is not over 15 and some code is usable, a code is chosen

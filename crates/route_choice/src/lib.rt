@@ -2,8 +2,11 @@
 // (document 01, "Interrogators and ground addresses"). A set of codes is a word of 16 bits: bit i
 // is code i.
 ghost use mathlib.Core.Path.{_≡_};
+ghost use mathlib.Core.Bool.{cond};
+ghost use lib.Dec.{eqb};
+ghost use Rattle.refusal.specs.Numbers.{verdictNumber, valueBy};
 ghost use Rattle.route_choice.specs.declared.LastUsed.the-variants.{Nothing as NoCode};
-ghost use Rattle.route_choice.specs.Choosing.{choiceNumber, clearingOf, chooseOf};
+ghost use Rattle.route_choice.specs.Choosing.{choiceNumber, choiceCode, usable, chooseVerdict, chosenCode, chooseOf, clearingCause, clearingDiagnostic, clearingOf};
 use refusal::Refusal;
 use wordset::set16;
 
@@ -41,6 +44,8 @@ impl Choice {
     // is made or for any other refusal.
     pub fn clearing(self) -> Clearing
         ensures { λ r. ⌜ r ≡ clearingOf self ⌝ }
+        ensures cause { λ r. ⌜ clearingCause r ≡ cond (eqb (choiceNumber self) 8) 141 0 ⌝ }
+        ensures diagnostic { λ r. ⌜ clearingDiagnostic r ≡ cond (eqb (choiceNumber self) 8) 162 0 ⌝ }
     {
         match self {
             Choice::Chosen(_code) => Clearing::Nothing,
@@ -77,6 +82,8 @@ fn choose_lowest(codes: u16, failed: u16) -> Choice
 // then with 15 if all of `codes` have failed.
 pub fn choose(codes: u16, last: LastUsed, failed: u16) -> Choice
     ensures { λ r. ⌜ r ≡ chooseOf codes last failed ⌝ }
+    ensures number { λ r. ⌜ choiceNumber r ≡ verdictNumber (chooseVerdict codes last failed) ⌝ }
+    ensures value { λ r. ⌜ choiceCode r ≡ valueBy (chooseVerdict codes last failed) (chosenCode (usable codes failed) last) ⌝ }
 {
     match last {
         LastUsed::Code(code) => {

@@ -2,6 +2,12 @@
 // read from standard input and cut into long downlink frames; the frames arrive at a resequencer
 // out of order, some of them twice; the frames that are handed on are joined again. Every event is
 // printed.
+//
+// A proved program has no exit status. So the last thing that it does is to write a mark to
+// descriptor 3, from which tools/run-proved makes a status: `done` if the whole message was read
+// and all was printed, `input` if a read failed, `output` if a write failed. Where descriptor 3 is
+// not open, nothing is written to it. `good` is true as long as no read and no write has failed;
+// after that nothing is read or printed.
 ghost use mathlib.Core.Path.{_≡_};
 ghost use mathlib.Core.Bool.{true};
 ghost use mathlib.Core.List.{List, [], map};
@@ -46,12 +52,43 @@ fn main() {
     let mut message = [0u8; 4097];
     let mut frames = [0u8; 4592];
     let mut lengths = [0usize; 164];
-    let n = io::read_full(STDIN_FILENO, &mut message);
-    carry(&message[..n], &mut frames, &mut lengths);
+    let mut good = true;
+    let n = read_all(&mut message, &mut good);
+    carry(&message[..n], &mut frames, &mut lengths, &mut good);
+    if good {
+        mark(b"done\n");
+    }
+}
+
+// Reads until the buffer is full or the input has ended, and returns how many bytes were read.
+fn read_all(message: &mut [u8], good: &mut bool) -> usize
+    ensures { λ r. ⌜ r ≤ length (now (message .entry)) ⌝ }
+{
+    let mut n = 0;
+    while n < message.len() {
+        let came = read_some(&mut message[n..], good);
+        if came == 0 {
+            return n;
+        }
+        n += came;
+    }
+    n
+}
+
+// Reads once: 0 bytes at the end of the input, or if the read failed.
+fn read_some(rest: &mut [u8], good: &mut bool) -> usize
+    ensures { λ r. ⌜ r ≤ length (now (rest .entry)) ⌝ }
+{
+    let got = libc::read(STDIN_FILENO, rest);
+    if got < 0 {
+        mark(b"input\n");
+        *good = false;
+    }
+    io::count(got, rest)
 }
 
 // Cuts the message from SN 0 and sends the frames across the link.
-fn carry(message: &[u8], frames: &mut [u8], lengths: &mut [usize])
+fn carry(message: &[u8], frames: &mut [u8], lengths: &mut [usize], good: &mut bool)
     requires { ⌜ length (now lengths) ≤ 164 ⌝ }
 {
     let start = Start {
@@ -63,30 +100,30 @@ fn carry(message: &[u8], frames: &mut [u8], lengths: &mut [usize])
     let cut = message::cutting::cut_message(Form::LongDownlink(3), start, message, frames, lengths);
     match cut {
         Cut::Frames(count, bytes) => {
-            number(message.len());
-            text(b" bytes, frames: ");
-            number(count);
-            text(b"\n");
-            cross(message, &lengths[..count], &frames[..bytes]);
+            number(message.len(), good);
+            text(b" bytes, frames: ", good);
+            number(count, good);
+            text(b"\n", good);
+            cross(message, &lengths[..count], &frames[..bytes], good);
         }
         Cut::Refused(why) => {
             // the numbers are in range and the lists have room for every message: only 4 is
             // possible
-            text(b"refused ");
-            number(why.number() as usize);
-            text(b": a message has 4,096 bytes at most\n");
+            text(b"refused ", good);
+            number(why.number() as usize, good);
+            text(b": a message has 4,096 bytes at most\n", good);
         }
     }
 }
 
 // Lets the frames arrive, joins those that are handed on, and prints whether this gives the
 // message.
-fn cross(message: &[u8], lengths: &[usize], frames: &[u8])
+fn cross(message: &[u8], lengths: &[usize], frames: &[u8], good: &mut bool)
     requires { ⌜ length (now lengths) ≤ 164 ⌝ }
 {
     let mut received = [0u8; 4592];
     let mut sizes = [0usize; 164];
-    let handed = receive(lengths, frames, &mut received, &mut sizes);
+    let handed = receive(lengths, frames, &mut received, &mut sizes, good);
     let count = handed.frames;
     let bytes = handed.bytes;
     let mut joined = [0u8; 4096];
@@ -96,7 +133,7 @@ fn cross(message: &[u8], lengths: &[usize], frames: &[u8])
         &received[..bytes],
         &mut joined,
     );
-    tell_joined(answer, message, &joined);
+    tell_joined(answer, message, &joined, good);
 }
 
 // ---- the link
@@ -139,7 +176,13 @@ fn happens(event: Event, count: usize) -> bool
 
 // Goes through all events. The frames that are handed on are stored one after the other in
 // `received`, and their lengths in `sizes`.
-fn receive(lengths: &[usize], frames: &[u8], received: &mut [u8], sizes: &mut [usize]) -> Handed
+fn receive(
+    lengths: &[usize],
+    frames: &[u8],
+    received: &mut [u8],
+    sizes: &mut [usize],
+    good: &mut bool,
+) -> Handed
     requires { ⌜ length (now lengths) ≤ 164 ⌝ }
     ensures { λ r. ⌜ Holds (now (received .exit)) (now (sizes .exit)) r (keepAll (length (now (received .entry))) (length (now (sizes .entry))) []
         (framesHandedOn demoForm (partsOf (now (lengths .entry)) (now (frames .entry))) (allCalls (length (now (lengths .entry)))))) ⌝ }
@@ -156,7 +199,7 @@ fn receive(lengths: &[usize], frames: &[u8], received: &mut [u8], sizes: &mut [u
         i = i + 1;
         if happens(event, lengths.len()) {
             let answer = answer_to(state, event, lengths, frames);
-            tell(event, answer);
+            tell(event, answer, good);
             let more = hand_on(answer, lengths, frames, received, sizes, handed);
             handed = more;
             let next = answer.next;
@@ -288,108 +331,121 @@ fn keep(frame: &[u8], received: &mut [u8], sizes: &mut [usize], kept: Handed) ->
 
 // ---- what is printed
 
+// Writes the mark, if descriptor 3 is open.
+fn mark(text: &[u8]) {
+    io::write_all(3, text);
+}
+
 // Prints bytes.
-fn text(bytes: &[u8]) {
-    io::write_all(STDOUT_FILENO, bytes);
+fn text(bytes: &[u8], good: &mut bool) {
+    if *good {
+        if io::write_all(STDOUT_FILENO, bytes) {
+            return;
+        }
+        mark(b"output\n");
+        *good = false;
+    }
 }
 
 // Prints a number in decimal.
-fn number(n: usize) {
-    io::print_decimal(STDOUT_FILENO, n as u64);
+fn number(n: usize, good: &mut bool) {
+    let mut digits = [0u8; 20];
+    let count = io::decimal(n as u64, &mut digits);
+    text(&digits[..count], good);
 }
 
 // Prints one number of a list.
-fn listed(n: usize) {
-    text(b" ");
-    number(n);
+fn listed(n: usize, good: &mut bool) {
+    text(b" ", good);
+    number(n, good);
 }
 
 // Prints one event: what arrived or ended, the outcome, and the held numbers and running clocks
 // afterwards.
-fn tell(event: Event, answer: Answer) {
+fn tell(event: Event, answer: Answer, good: &mut bool) {
     match event {
         Event::Frame(place) => {
-            text(b"frame ");
-            number(place);
-            text(b" SN ");
-            number(place % 64);
+            text(b"frame ", good);
+            number(place, good);
+            text(b" SN ", good);
+            number(place % 64, good);
         }
         Event::Stray(sn) => {
-            text(b"stray SN ");
-            number(sn as usize);
+            text(b"stray SN ", good);
+            number(sn as usize, good);
         }
         Event::ClockEnd(sn) => {
-            text(b"clock end ");
-            number(sn as usize);
+            text(b"clock end ", good);
+            number(sn as usize, good);
         }
     }
-    tell_outcome(answer);
+    tell_outcome(answer, good);
     let next = answer.next;
-    tell_set(b"; held", next.held);
-    tell_set(b"; clocks", next.clocks);
-    text(b"\n");
+    tell_set(b"; held", next.held, good);
+    tell_set(b"; clocks", next.clocks, good);
+    text(b"\n", good);
 }
 
 // Prints the numbers of a set.
-fn tell_set(title: &[u8], set: u64) {
-    text(title);
+fn tell_set(title: &[u8], set: u64, good: &mut bool) {
+    text(title, good);
     if set == 0 {
-        text(b" -");
+        text(b" -", good);
     }
     let mut n: u8 = 0;
     while n < 64 {
         if set64::member(set, n) {
-            listed(n as usize);
+            listed(n as usize, good);
         }
         n = n + 1;
     }
 }
 
 // Prints the outcome of an event: what is handed on, or why nothing is.
-fn tell_outcome(answer: Answer) {
+fn tell_outcome(answer: Answer, good: &mut bool) {
     let outcome = answer.outcome;
     match outcome {
         Outcome::HandedOn => {
-            text(b": hands on");
-            tell_tickets(answer);
+            text(b": hands on", good);
+            tell_tickets(answer, good);
         }
-        Outcome::Held => text(b": early"),
-        Outcome::Old => text(b": old"),
-        Outcome::Duplicate => text(b": duplicate"),
+        Outcome::Held => text(b": early", good),
+        Outcome::Old => text(b": old", good),
+        Outcome::Duplicate => text(b": duplicate", good),
         Outcome::Refused(why) => {
-            text(b": refused ");
-            number(why.number() as usize);
+            text(b": refused ", good);
+            number(why.number() as usize, good);
         }
     }
 }
 
 // Prints the places of the frames that are handed on, which are their tickets.
-fn tell_tickets(answer: Answer) {
+fn tell_tickets(answer: Answer, good: &mut bool) {
     let tickets = answer.tickets;
     let count = count_handed(answer);
     let mut i = 0;
     while i < count {
-        listed(tickets[i] as usize);
+        listed(tickets[i] as usize, good);
         i = i + 1;
     }
 }
 
 // Prints whether the message that was joined is the one that was sent.
-fn tell_joined(answer: Joined, message: &[u8], joined: &[u8]) {
+fn tell_joined(answer: Joined, message: &[u8], joined: &[u8], good: &mut bool) {
     match answer {
         Joined::Bytes(n) => {
-            text(b"joined ");
-            number(n);
+            text(b"joined ", good);
+            number(n, good);
             if n == message.len() && is_front(message, joined) {
-                text(b" bytes: the message\n");
+                text(b" bytes: the message\n", good);
             } else {
-                text(b" bytes: not the message\n");
+                text(b" bytes: not the message\n", good);
             }
         }
         Joined::Refused(why) => {
-            text(b"not joined: refused ");
-            number(why.number() as usize);
-            text(b"\n");
+            text(b"not joined: refused ", good);
+            number(why.number() as usize, good);
+            text(b"\n", good);
         }
     }
 }

@@ -25,7 +25,7 @@ use Rattle.window.specs.declared.receiver.Receiver.{Receiver}
 use Rattle.window.specs.declared.receiver.Receipt.the-variants.{Taken, Refused as NotTaken}
 use Rattle.window.specs.declared.receiver.Telling.the-variants.{Tell}
 use Rattle.window.specs.Sending.{senderInOrder, sendVerdict, sendOf, acknowledgeVerdict, acknowledgeOf}
-use Rattle.window.specs.Receiving.{freshReceiver, receiverInOrder, receiveVerdict, receiveOf, tellOf}
+use Rattle.window.specs.Receiving.{freshReceiver, receiverInOrder, receiveVerdict, countAfter, dueAfter, receiveOf, tellVerdict, tellOf}
 
 -- ---- the sending end
 
@@ -124,7 +124,7 @@ told-good r e =
 
 pub tell-told : (r : Receiver) → receiverInOrder r ≡ true
     → tellOf r ≡ record { answer = Tell (r .expected); next = record { expected = r .expected; first = r .first; untold = 0 } }
-unfolding tellOf
+unfolding tellOf tellVerdict
 tell-told r e = simp e
 
 pub tell-good : (r : Receiver) → receiverInOrder r ≡ true → receiverInOrder (tellOf r .next) ≡ true
@@ -133,7 +133,7 @@ tell-good r e = rw (tell-told r e) (told-good r e)
 -- the expected PS is accepted, whatever the mark and the count are
 pub receive-taken : (r : Receiver) (n : ℕ) → receiverInOrder r ≡ true → r .expected ≡ packet (n % 16)
     → receiveOf r (n % 16)
-    ≡ record { answer = Taken (eqb (min 8 (r .untold + 1)) 8); next = record { expected = packet (suc n % 16); first = false; untold = min 8 (r .untold + 1) } }
+    ≡ record { answer = Taken (dueAfter r); next = record { expected = packet (suc n % 16); first = false; untold = countAfter r } }
 unfolding receiveOf receiveVerdict
 receive-taken r n e x =
     let f : inField 16 (n % 16) ≡ true = lt-ltb (n % 16) 16 (mod-lt n (lit< tt)) in

@@ -2,19 +2,16 @@
 -- one returns the given end.
 -- Assumes nothing.
 use mathlib.Core.Path.{_≡_, refl}
-use mathlib.Core.Bool.{Bool, true, false, cond}
+use mathlib.Core.Bool.{false}
 use mathlib.Core.Logic.{_≢_}
 use Prim.Native.Nat.{ℕ}
-use Rattle.refusal.specs.declared.Refusal.the-variants.{NotInOrder}
 use Rattle.refusal.specs.declared.Verdict.{Verdict}
 use Rattle.refusal.specs.declared.Verdict.the-variants.{Done, Refused}
 use Rattle.refusal.specs.Numbers.{verdictNumber}
 use Rattle.window.specs.declared.sender.Sender.{Sender}
 use Rattle.window.specs.declared.receiver.Receiver.{Receiver}
-use Rattle.window.specs.declared.receiver.Told.{Told}
-use Rattle.window.specs.declared.receiver.Telling.the-variants.{Tell, Refused as NotTold}
 use Rattle.window.specs.Sending.{grantNumber, grantPs, sendVerdict, sendBy, sendOf, acknowledgeVerdict, acknowledgeBy, acknowledgeOf}
-use Rattle.window.specs.Receiving.{receiverInOrder, receiptNumber, receiptDue, receiveVerdict, receiveBy, receiveOf, tellingNumber, tellingPr, tellOf}
+use Rattle.window.specs.Receiving.{receiptNumber, receiptDue, receiveVerdict, receiveBy, receiveOf, tellingNumber, tellingPr, tellVerdict, tellBy, tellOf}
 use Rattle.window.specs.Refusing.{RefusalsChangeNothing}
 
 send-by : (v : Verdict) (s : Sender) → grantNumber (sendBy v s .answer) ≢ 0 → (grantPs (sendBy v s .answer) ≡ 0) × (sendBy v s .next ≡ s)
@@ -30,25 +27,15 @@ receive-by : (v : Verdict) (r : Receiver) → receiptNumber (receiveBy v r .answ
 receive-by Done r h = absurd (h refl)
 receive-by (Refused why) r h = (refl, refl)
 
-tell-by : (r : Receiver) → tellingNumber (tellOf r .answer) ≢ 0 → (tellingPr (tellOf r .answer) ≡ 0) × (tellOf r .next ≡ r)
-unfolding tellOf
-tell-by r h = go (receiverInOrder r) h
-  where
-    told : Bool → Told
-    told b =
-        cond b
-        (record { answer = Tell (r .expected); next = record { expected = r .expected; first = r .first; untold = 0 } })
-        (record { answer = NotTold NotInOrder; next = r })
-
-    go : (b : Bool) → tellingNumber (told b .answer) ≢ 0 → (tellingPr (told b .answer) ≡ 0) × (told b .next ≡ r)
-    go true h = absurd (h refl)
-    go false h = (refl, refl)
+tell-by : (v : Verdict) (r : Receiver) → tellingNumber (tellBy v r .answer) ≢ 0 → (tellingPr (tellBy v r .answer) ≡ 0) × (tellBy v r .next ≡ r)
+tell-by Done r h = absurd (h refl)
+tell-by (Refused why) r h = (refl, refl)
 
 pub refusals-change-nothing : RefusalsChangeNothing
-unfolding sendOf acknowledgeOf receiveOf
+unfolding sendOf acknowledgeOf receiveOf tellOf
 refusals-change-nothing = record {
   send = λ s. send-by (sendVerdict s) s;
   acknowledge = λ s pr. acknowledge-by (acknowledgeVerdict s pr) s pr;
   receive = λ r ps. receive-by (receiveVerdict r ps) r;
-  tell = tell-by;
+  tell = λ r. tell-by (tellVerdict r) r;
 }

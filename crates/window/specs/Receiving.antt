@@ -54,13 +54,21 @@ receiveVerdict r ps =
     (check (eqb ps (r .expected .0)) (otherPs r ps)
     Done))
 
+-- the count after one more packet: it goes up "by one but never over 8"
+abbrev pub countAfter : Receiver → ℕ
+countAfter r = min 8 (r .untold + 1)
+
+-- "At 8 the answer says that PR is due"
+abbrev pub dueAfter : Receiver → Bool
+dueAfter r = eqb (countAfter r) 8
+
 -- the answer and the next state, by the verdict. Accepted: "the mark falls, expected goes up by one
 -- modulo 16, the count by one but never over 8. At 8 the answer says that PR is due". Refused: "the
 -- same state", so that the mark stays as it is.
 abbrev pub receiveBy : Verdict → Receiver → Received
 receiveBy Done r = record {
-  answer = Taken (eqb (min 8 (r .untold + 1)) 8);
-  next = record { expected = packet (next 16 (r .expected .0)); first = false; untold = min 8 (r .untold + 1) };
+  answer = Taken (dueAfter r);
+  next = record { expected = packet (next 16 (r .expected .0)); first = false; untold = countAfter r };
 }
 receiveBy (Refused why) r = record { answer = NotTaken why; next = r }
 
@@ -80,10 +88,16 @@ abbrev pub tellingPr : Telling → ℕ
 tellingPr (Tell pr) = pr .0
 tellingPr (NotTold why) = 0
 
--- what `tell` returns for the end r: PR is the expected PS, "telling sets the count to 0", and the
--- mark stays as it is. An end that is not in good order is refused with 14.
+-- the check: 14
+unfoldable pub tellVerdict : Receiver → Verdict
+tellVerdict r = check (receiverInOrder r) NotInOrder Done
+
+-- the answer and the next state, by the verdict: PR is the expected PS, "telling sets the count to
+-- 0", and the mark stays as it is. Refused: "the same state".
+abbrev pub tellBy : Verdict → Receiver → Told
+tellBy Done r = record { answer = Tell (r .expected); next = record { expected = r .expected; first = r .first; untold = 0 } }
+tellBy (Refused why) r = record { answer = NotTold why; next = r }
+
+-- what `tell` returns for the end r
 unfoldable pub tellOf : Receiver → Told
-tellOf r =
-    cond (receiverInOrder r)
-    (record { answer = Tell (r .expected); next = record { expected = r .expected; first = r .first; untold = 0 } })
-    (record { answer = NotTold NotInOrder; next = r })
+tellOf r = tellBy (tellVerdict r) r

@@ -3,7 +3,8 @@
 // next state of the end; a refused call returns the end unchanged.
 ghost use mathlib.Core.Path.{_≡_};
 ghost use Prim.Native.Nat.{_+_, _≤_, min};
-ghost use Rattle.window.specs.Receiving.{receiptNumber, tellingNumber, freshReceiver, receiverInOrder, otherPs, receiveVerdict, receiveOf, tellOf};
+ghost use Rattle.refusal.specs.Numbers.{verdictNumber, valueBy, flagBy};
+ghost use Rattle.window.specs.Receiving.{receiptNumber, receiptDue, tellingNumber, tellingPr, freshReceiver, receiverInOrder, otherPs, receiveVerdict, dueAfter, receiveOf, tellVerdict, tellOf};
 use refusal::Refusal;
 use refusal::Verdict;
 use sequence::PacketNumber;
@@ -137,6 +138,8 @@ impl Receiver {
     // of packets not yet told by one but never over 8, and at 8 the answer says that PR is due.
     pub fn receive(self, ps: PacketNumber) -> Received
         ensures { λ r. ⌜ r ≡ receiveOf self (ps .0) ⌝ }
+        ensures number { λ r. ⌜ receiptNumber (r .answer) ≡ verdictNumber (receiveVerdict self (ps .0)) ⌝ }
+        ensures value { λ r. ⌜ receiptDue (r .answer) ≡ flagBy (receiveVerdict self (ps .0)) (dueAfter self) ⌝ }
     {
         let expected = self.expected;
         let verdict = self.check_receive(ps);
@@ -163,6 +166,8 @@ impl Receiver {
     // told to 0; the mark stays as it is. Refused with 14.
     pub fn tell(self) -> Told
         ensures { λ r. ⌜ r ≡ tellOf self ⌝ }
+        ensures number { λ r. ⌜ tellingNumber (r .answer) ≡ verdictNumber (tellVerdict self) ⌝ }
+        ensures value { λ r. ⌜ tellingPr (r .answer) ≡ valueBy (tellVerdict self) (self .expected .0) ⌝ }
     {
         let expected = self.expected;
         if self.in_order() {

@@ -2,7 +2,8 @@
 // sent, and which PR is accepted. Each call takes the end by value and returns its answer with the
 // next state of the end; a refused call returns the end unchanged.
 ghost use mathlib.Core.Path.{_≡_};
-ghost use Rattle.window.specs.Sending.{grantNumber, freshSender, senderInOrder, sendOf, acknowledgeVerdict, acknowledgeOf};
+ghost use Rattle.refusal.specs.Numbers.{verdictNumber, valueBy};
+ghost use Rattle.window.specs.Sending.{grantNumber, grantPs, freshSender, senderInOrder, sendVerdict, sendOf, acknowledgeVerdict, acknowledgeOf};
 use refusal::Refusal;
 use refusal::Verdict;
 use sequence::PacketNumber;
@@ -66,6 +67,8 @@ impl Sender {
     // from the edge to the next PS is at most 14, and the next PS then goes up by one modulo 16.
     pub fn send(self) -> Sent
         ensures { λ r. ⌜ r ≡ sendOf self ⌝ }
+        ensures number { λ r. ⌜ grantNumber (r .answer) ≡ verdictNumber (sendVerdict self) ⌝ }
+        ensures value { λ r. ⌜ grantPs (r .answer) ≡ valueBy (sendVerdict self) (self .ps .0) ⌝ }
     {
         let edge = self.edge;
         let ps = self.ps;
@@ -117,6 +120,7 @@ impl Sender {
     // it acknowledges every packet before it.
     pub fn acknowledge(self, pr: PacketNumber) -> Acknowledged
         ensures { λ r. ⌜ r ≡ acknowledgeOf self (pr .0) ⌝ }
+        ensures number { λ r. ⌜ verdictNumber (r .verdict) ≡ verdictNumber (acknowledgeVerdict self (pr .0)) ⌝ }
     {
         let ps = self.ps;
         let verdict = self.check_acknowledge(pr);

@@ -1,31 +1,35 @@
 -- A call on the bytes of an end, case by case: its answer and the bytes afterwards. A refusal
--- leaves the bytes, so that the code need not write them.
+-- leaves the bytes, so that the code need not write them; nor need it write those bytes of an end
+-- that a call never changes.
 -- Assumes nothing.
 use mathlib.Core.Path.{_≡_, refl, sym, ap, _∙_}
-use mathlib.Core.Bool.{Bool, true, cond}
+use mathlib.Core.Bool.{Bool, true}
 use mathlib.Core.List.{List, [], _∷_}
 use mathlib.Core.Logic.{_≢_}
 use Prim.Native.Nat.{ℕ, _+_, _*_}
 use native.Mathlib.Omega.{arith}
 use lib.ListN.{length, set}
-use borrow.Author.Tests.{eq-eqb}
 use Rattle.refusal.specs.declared.Refusal.{Refusal}
 use Rattle.refusal.specs.declared.Verdict.{Verdict}
 use Rattle.refusal.specs.declared.Verdict.the-variants.{Done, Refused}
-use Rattle.refusal.specs.Numbers.{numberOf}
+use Rattle.refusal.specs.Numbers.{numberOf, verdictNumber}
 use Rattle.refusal.proofs.Numbers.{number-range}
 use Rattle.sequence.specs.declared.PacketNumber.{PacketNumber}
 use Rattle.window.specs.declared.sender.Sender.{Sender}
 use Rattle.window.specs.declared.sender.Grant.the-variants.{Granted, Refused as NotGranted}
 use Rattle.window.specs.declared.sender.Sent.{Sent}
-use Rattle.window.specs.Sending.{grantNumber, sendVerdict, sendBy, sendOf}
+use Rattle.window.specs.declared.sender.Acknowledged.{Acknowledged}
+use Rattle.window.specs.Sending.{grantNumber, sendVerdict, sendBy, sendOf, acknowledgeVerdict, acknowledgeBy, acknowledgeOf}
+use Rattle.window.specs.declared.receiver.Receiver.{Receiver}
 use Rattle.window.specs.declared.receiver.Receipt.the-variants.{Taken, Refused as NotTaken}
 use Rattle.window.specs.declared.receiver.Received.{Received}
-use Rattle.window.specs.Receiving.{receiptNumber, receiveOf}
+use Rattle.window.specs.declared.receiver.Telling.the-variants.{Tell, Refused as NotTold}
+use Rattle.window.specs.declared.receiver.Told.{Told}
+use Rattle.window.specs.Receiving.{receiptNumber, receiveOf, tellingNumber, tellVerdict, tellBy, tellOf}
 use Rattle.window.proofs.Refusing.{refusals-change-nothing}
 use Rattle.little.specs.Little.{flag}
-use Rattle.window_bytes.specs.Stored.{isSender, senderIn, senderBytes, grantAnswer, sendAnswer, sendBytes, isReceiver, receiverIn, receiverBytes, receiptAnswer, receiveAnswer, receiveBytes}
-use Rattle.window_bytes.proofs.Stored.{next-written, sender-bytes-back, receiver-bytes-back}
+use Rattle.window_bytes.specs.Stored.{senderIn, senderBytes, grantAnswer, sendAnswer, sendBytes, acknowledgeAnswer, acknowledgeBytes, isReceiver, receiverIn, receiverBytes, receiptAnswer, receiveAnswer, receiveBytes, tellingAnswer, tellAnswer, tellBytes}
+use Rattle.window_bytes.proofs.Stored.{edge-written, next-written, is-sender, sender-bytes-back, count-written, receiver-bytes-back}
 
 -- a refusal's number is not 0
 not-done : (why : Refusal) (n : ℕ) → n ≡ numberOf why → n ≢ 0
@@ -34,69 +38,110 @@ not-done why n e z = absurd (omega (arith, number-range why .0))
 -- ---- asking for a PS
 
 -- `send` never changes the edge
-edge-kept : (v : Verdict) (s : Sender) → sendBy v s .next .edge ≡ s .edge
+edge-kept : (v : Verdict) (s : Sender) → s .edge ≡ sendBy v s .next .edge
 edge-kept Done s = refl
 edge-kept (Refused why) s = refl
 
 module _ (b : List ℕ) (h : length b ≡ 2) (a : Sent) (e : a ≡ sendOf (senderIn b)) where
-  is-sender : isSender b ≡ true
-  unfolding isSender
-  is-sender = eq-eqb (length b) 2 h
-
-  told : (n : ℕ) → n ≡ grantAnswer (a .answer) → n ≡ sendAnswer b
-  unfolding sendAnswer
-  told n m = m ∙ ap (λ (x : Sent). grantAnswer (x .answer)) e ∙ ap (λ (t : Bool). cond t (grantAnswer (sendOf (senderIn b) .answer)) 14) (sym is-sender)
-
-  left : (bytes : List ℕ) → bytes ≡ senderBytes (sendOf (senderIn b) .next) → bytes ≡ sendBytes b
-  unfolding sendBytes
-  left bytes m = m ∙ ap (λ (t : Bool). cond t (senderBytes (sendOf (senderIn b) .next)) b) (sym is-sender)
-
   pub granted : (ps : PacketNumber) → a .answer ≡ Granted ps → (256 * ps .0 ≡ sendAnswer b) × (set b 1 (a .next .ps .0) ≡ sendBytes b)
-  unfolding sendOf
+  unfolding sendOf sendAnswer sendBytes
   granted ps g =
       let z : 256 * ps .0 ≡ 0 + 256 * ps .0 = omega arith in
-      let edge : PacketNumber = sendOf (senderIn b) .next .edge in
-      let k : senderIn b .edge ≡ edge = sym (edge-kept (sendVerdict (senderIn b)) (senderIn b)) in (
-        told (256 * ps .0) (z ∙ ap grantAnswer (sym g)),
-        left (set b 1 (a .next .ps .0)) (
-            next-written b (a .next .ps .0) h
+      rw (is-sender b h) (
+        z ∙ ap grantAnswer (sym g) ∙ ap (λ (x : Sent). grantAnswer (x .answer)) e,
+        next-written b (a .next .ps .0) h
             ∙ ap (λ (x : Sent). senderIn b .edge .0 ∷ x .next .ps .0 ∷ []) e
-            ∙ ap (λ (x : PacketNumber). x .0 ∷ sendOf (senderIn b) .next .ps .0 ∷ []) k
-            ),
+            ∙ ap (λ (x : PacketNumber). x .0 ∷ sendOf (senderIn b) .next .ps .0 ∷ []) (edge-kept (sendVerdict (senderIn b)) (senderIn b)),
       )
 
   pub not-granted : (why : Refusal) → a .answer ≡ NotGranted why → (n : ℕ) → n ≡ numberOf why → (n ≡ sendAnswer b) × (b ≡ sendBytes b)
+  unfolding sendAnswer sendBytes
   not-granted why g n m =
       let z : numberOf why ≡ numberOf why + 256 * 0 = omega arith in
-      let refused : grantNumber (sendOf (senderIn b) .answer) ≢ 0 = not-done why _ (ap (λ (x : Sent). grantNumber (x .answer)) (sym e) ∙ ap grantNumber g) in (
-        told n (m ∙ z ∙ ap grantAnswer (sym g)),
-        left b (sym (ap senderBytes (refusals-change-nothing .send (senderIn b) refused .1) ∙ sender-bytes-back b is-sender)),
+      let refused : grantNumber (sendOf (senderIn b) .answer) ≢ 0 = not-done why _ (ap (λ (x : Sent). grantNumber (x .answer)) (sym e) ∙ ap grantNumber g) in
+      rw (is-sender b h) (
+        m ∙ z ∙ ap grantAnswer (sym g) ∙ ap (λ (x : Sent). grantAnswer (x .answer)) e,
+        sym (ap senderBytes (refusals-change-nothing .send (senderIn b) refused .1) ∙ sender-bytes-back b (is-sender b h)),
+      )
+
+-- ---- a received PR
+
+-- `acknowledge` never changes the next PS
+next-kept : (v : Verdict) (s : Sender) (pr : ℕ) → s .ps ≡ acknowledgeBy v s pr .next .ps
+next-kept Done s pr = refl
+next-kept (Refused why) s pr = refl
+
+module _ (b : List ℕ) (pr : ℕ) (h : length b ≡ 2) (a : Acknowledged) (e : a ≡ acknowledgeOf (senderIn b) pr) where
+  pub acknowledged : a .verdict ≡ Done → (0 ≡ acknowledgeAnswer b pr) × (set b 0 (a .next .edge .0) ≡ acknowledgeBytes b pr)
+  unfolding acknowledgeOf acknowledgeAnswer acknowledgeBytes
+  acknowledged g =
+      let end : Sender = acknowledgeOf (senderIn b) pr .next in
+      rw (is-sender b h) (
+        ap verdictNumber (sym g) ∙ ap (λ (x : Acknowledged). verdictNumber (x .verdict)) e,
+        edge-written b (a .next .edge .0) h
+            ∙ ap (λ (x : Acknowledged). x .next .edge .0 ∷ senderIn b .ps .0 ∷ []) e
+            ∙ ap (λ (x : PacketNumber). end .edge .0 ∷ x .0 ∷ []) (next-kept (acknowledgeVerdict (senderIn b) pr) (senderIn b) pr),
+      )
+
+  pub not-acknowledged : (why : Refusal) → a .verdict ≡ Refused why → (n : ℕ) → n ≡ numberOf why
+      → (n ≡ acknowledgeAnswer b pr) × (b ≡ acknowledgeBytes b pr)
+  unfolding acknowledgeAnswer acknowledgeBytes
+  not-acknowledged why g n m =
+      let number : numberOf why ≡ verdictNumber (acknowledgeOf (senderIn b) pr .verdict) = ap verdictNumber (sym g) ∙ ap (λ (x : Acknowledged). verdictNumber (x .verdict)) e in
+      rw (is-sender b h) (
+        m ∙ number,
+        sym (ap senderBytes (refusals-change-nothing .acknowledge (senderIn b) pr (not-done why _ (sym number))) ∙ sender-bytes-back b (is-sender b h)),
       )
 
 -- ---- a received PS
 
 module _ (b : List ℕ) (ps : ℕ) (h : isReceiver b ≡ true) (a : Received) (e : a ≡ receiveOf (receiverIn b) ps) where
-  told-receipt : (n : ℕ) → n ≡ receiptAnswer (a .answer) → n ≡ receiveAnswer b ps
-  unfolding receiveAnswer
-  told-receipt n m =
-      m ∙ ap (λ (x : Received). receiptAnswer (x .answer)) e ∙ ap (λ (t : Bool). cond t (receiptAnswer (receiveOf (receiverIn b) ps .answer)) 14) (sym h)
-
-  left-receiver : (bytes : List ℕ) → bytes ≡ receiverBytes (receiveOf (receiverIn b) ps .next) → bytes ≡ receiveBytes b ps
-  unfolding receiveBytes
-  left-receiver bytes m = m ∙ ap (λ (t : Bool). cond t (receiverBytes (receiveOf (receiverIn b) ps .next)) b) (sym h)
-
   pub taken : (due : Bool) → a .answer ≡ Taken due → (n : ℕ) → n ≡ flag due → (bytes : List ℕ) → bytes ≡ receiverBytes (a .next)
       → (256 * n ≡ receiveAnswer b ps) × (bytes ≡ receiveBytes b ps)
+  unfolding receiveAnswer receiveBytes
   taken due g n m bytes p =
-      let z : 256 * n ≡ 0 + 256 * flag due = omega arith in (
-        told-receipt (256 * n) (z ∙ ap receiptAnswer (sym g)),
-        left-receiver bytes (p ∙ ap (λ (x : Received). receiverBytes (x .next)) e),
+      let z : 256 * n ≡ 0 + 256 * flag due = omega arith in
+      rw h (
+        z ∙ ap receiptAnswer (sym g) ∙ ap (λ (x : Received). receiptAnswer (x .answer)) e,
+        p ∙ ap (λ (x : Received). receiverBytes (x .next)) e,
       )
 
   pub not-taken : (why : Refusal) → a .answer ≡ NotTaken why → (n : ℕ) → n ≡ numberOf why → (n ≡ receiveAnswer b ps) × (b ≡ receiveBytes b ps)
+  unfolding receiveAnswer receiveBytes
   not-taken why g n m =
       let z : numberOf why ≡ numberOf why + 256 * 0 = omega arith in
-      let refused : receiptNumber (receiveOf (receiverIn b) ps .answer) ≢ 0 = not-done why _ (ap (λ (x : Received). receiptNumber (x .answer)) (sym e) ∙ ap receiptNumber g) in (
-        told-receipt n (m ∙ z ∙ ap receiptAnswer (sym g)),
-        left-receiver b (sym (ap receiverBytes (refusals-change-nothing .receive (receiverIn b) ps refused .1) ∙ receiver-bytes-back b h)),
+      let refused : receiptNumber (receiveOf (receiverIn b) ps .answer) ≢ 0 = not-done why _ (ap (λ (x : Received). receiptNumber (x .answer)) (sym e) ∙ ap receiptNumber g) in
+      rw h (
+        m ∙ z ∙ ap receiptAnswer (sym g) ∙ ap (λ (x : Received). receiptAnswer (x .answer)) e,
+        sym (ap receiverBytes (refusals-change-nothing .receive (receiverIn b) ps refused .1) ∙ receiver-bytes-back b h),
+      )
+
+-- ---- telling PR
+
+-- `tell` changes the count only
+count-only : (v : Verdict) (r : Receiver) → _≡_ {A = Receiver} (record { expected = r .expected; first = r .first; untold = tellBy v r .next .untold }) (tellBy v r .next)
+count-only Done r = refl
+count-only (Refused why) r = refl
+
+module _ (b : List ℕ) (h : isReceiver b ≡ true) (a : Told) (e : a ≡ tellOf (receiverIn b)) where
+  pub told : (pr : PacketNumber) → a .answer ≡ Tell pr → (256 * pr .0 ≡ tellAnswer b) × (set b 2 (a .next .untold) ≡ tellBytes b)
+  unfolding tellOf tellAnswer tellBytes
+  told pr g =
+      let z : 256 * pr .0 ≡ 0 + 256 * pr .0 = omega arith in
+      let count : ℕ = tellOf (receiverIn b) .next .untold in
+      rw h (
+        z ∙ ap tellingAnswer (sym g) ∙ ap (λ (x : Told). tellingAnswer (x .answer)) e,
+        ap (λ (x : Told). set b 2 (x .next .untold)) e
+            ∙ count-written b count h
+            ∙ ap receiverBytes (count-only (tellVerdict (receiverIn b)) (receiverIn b)),
+      )
+
+  pub not-told : (why : Refusal) → a .answer ≡ NotTold why → (n : ℕ) → n ≡ numberOf why → (n ≡ tellAnswer b) × (b ≡ tellBytes b)
+  unfolding tellAnswer tellBytes
+  not-told why g n m =
+      let z : numberOf why ≡ numberOf why + 256 * 0 = omega arith in
+      let refused : tellingNumber (tellOf (receiverIn b) .answer) ≢ 0 = not-done why _ (ap (λ (x : Told). tellingNumber (x .answer)) (sym e) ∙ ap tellingNumber g) in
+      rw h (
+        m ∙ z ∙ ap tellingAnswer (sym g) ∙ ap (λ (x : Told). tellingAnswer (x .answer)) e,
+        sym (ap receiverBytes (refusals-change-nothing .tell (receiverIn b) refused .1) ∙ receiver-bytes-back b h),
       )

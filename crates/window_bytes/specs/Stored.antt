@@ -51,9 +51,9 @@ freshSenderAnswer b = cond (isSender b) 0 (numberOf NotInOrder)
 unfoldable pub freshSenderBytes : List ℕ → List ℕ
 freshSenderBytes b = cond (isSender b) (senderBytes freshSender) b
 
--- 1 if the bytes encode a sending end in good order, else 0
+-- 0 if the bytes encode a sending end in good order, else 14
 unfoldable pub senderOrderAnswer : List ℕ → ℕ
-senderOrderAnswer b = flag (isSender b && senderInOrder (senderIn b))
+senderOrderAnswer b = cond (isSender b && senderInOrder (senderIn b)) 0 (numberOf NotInOrder)
 
 -- asking for a PS; bytes that encode no sending end are refused with 14, and nothing is written
 unfoldable pub sendAnswer : List ℕ → ℕ
@@ -102,9 +102,9 @@ freshReceiverAnswer b = cond (eqb (length b) 3) 0 (numberOf NotInOrder)
 unfoldable pub freshReceiverBytes : List ℕ → List ℕ
 freshReceiverBytes b = cond (eqb (length b) 3) (receiverBytes freshReceiver) b
 
--- 1 if the bytes encode a receiving end in good order, else 0
+-- 0 if the bytes encode a receiving end in good order, else 14
 unfoldable pub receiverOrderAnswer : List ℕ → ℕ
-receiverOrderAnswer b = flag (isReceiver b && receiverInOrder (receiverIn b))
+receiverOrderAnswer b = cond (isReceiver b && receiverInOrder (receiverIn b)) 0 (numberOf NotInOrder)
 
 -- taking a received PS; bytes that encode no receiving end are refused with 14, and nothing is
 -- written

@@ -3,11 +3,12 @@
 // sending end is 2 bytes: lower edge, next PS. A receiving end is 3 bytes: expected PS,
 // first-packet mark as 0 or 1, count of packets not yet told. A call answers one number, the
 // refusal number (0 for done) plus 256 times the value that its comment names; a refusal has the
-// value 0 and leaves the bytes as they were. 14 refuses bytes of another length, a mark over 1, and
-// an end that is not in good order. specs/Stored.antt defines the layout and each answer.
+// value 0 and writes nothing. 14 refuses bytes of another length, a mark over 1, and an end that is
+// not in good order. specs/Stored.antt defines the layout and each answer.
 ghost use mathlib.Core.Path.{_≡_};
 ghost use lib.ListN.{length};
-ghost use Rattle.window_bytes.specs.Stored.{senderIn, senderBytes, isReceiver, receiverIn, receiverBytes, tellingAnswer, freshSenderAnswer, freshSenderBytes, senderOrderAnswer, sendAnswer, sendBytes, acknowledgeAnswer, acknowledgeBytes, freshReceiverAnswer, freshReceiverBytes, receiverOrderAnswer, receiveAnswer, receiveBytes, tellAnswer, tellBytes};
+ghost use Rattle.window_bytes.specs.Stored.{senderIn, senderBytes, isReceiver, receiverIn, receiverBytes, freshSenderAnswer, freshSenderBytes, senderOrderAnswer, sendAnswer, sendBytes, acknowledgeAnswer, acknowledgeBytes, freshReceiverAnswer, freshReceiverBytes, receiverOrderAnswer, receiveAnswer, receiveBytes, tellAnswer, tellBytes};
+use refusal::Verdict;
 use sequence::PacketNumber;
 use window::receiver::Receipt;
 use window::receiver::Receiver;
@@ -54,15 +55,15 @@ pub fn sender_fresh(state: &mut [u8]) -> u32
     }
 }
 
-// Answers 1 if the bytes are a sending end in good order, else 0; this is no refusal number.
+// Answers 0 if the bytes are a sending end in good order, else 14. There is no value.
 pub fn sender_in_order(state: &[u8]) -> u32
     ensures { λ r. ⌜ r ≡ senderOrderAnswer (now (state .entry)) ⌝ }
 {
     if state.len() == 2 {
         let end = sender_in(state);
-        if end.in_order() { 1 } else { 0 }
+        if end.in_order() { 0 } else { NOT_IN_ORDER }
     } else {
-        0
+        NOT_IN_ORDER
     }
 }
 
@@ -90,7 +91,8 @@ pub fn sender_send(state: &mut [u8]) -> u32
 }
 
 // Takes a received PR, which becomes the lower edge. There is no value. Refused in the order 14, 1
-// (PR over 15), 16 (PR acknowledges what was never sent).
+// (PR over 15), 16 (PR acknowledges what was never sent). If it is accepted, only the byte of the
+// edge is written.
 pub fn sender_acknowledge(state: &mut [u8], pr: u8) -> u32
     ensures { λ r. ⌜ r ≡ acknowledgeAnswer (now (state .entry)) pr ⌝ }
     ensures { λ _. ⌜ now (state .exit) ≡ acknowledgeBytes (now (state .entry)) pr ⌝ }
@@ -99,8 +101,14 @@ pub fn sender_acknowledge(state: &mut [u8], pr: u8) -> u32
         let end = sender_in(state);
         let acknowledged = end.acknowledge(PacketNumber(pr));
         let verdict = acknowledged.verdict;
-        put_sender(state, acknowledged.next);
-        verdict.number() as u32
+        match verdict {
+            Verdict::Done => {
+                let after = acknowledged.next;
+                state[0] = after.edge.0;
+                0
+            }
+            Verdict::Refused(why) => why.number() as u32,
+        }
     } else {
         NOT_IN_ORDER
     }
@@ -138,16 +146,6 @@ fn put_receiver(state: &mut [u8], end: Receiver)
     state[2] = end.untold;
 }
 
-// The answer to `tell` as one number: the value is PR.
-fn telling_answer(answer: Telling) -> u32
-    ensures { λ r. ⌜ r ≡ tellingAnswer answer ⌝ }
-{
-    match answer {
-        Telling::Tell(pr) => 256 * pr.0 as u32,
-        Telling::Refused(why) => why.number() as u32,
-    }
-}
-
 // Writes a receiving end that has accepted nothing to `state`, whatever its bytes were. There is no
 // value. Refused with 14 if `state` has not 3 bytes.
 pub fn receiver_fresh(state: &mut [u8]) -> u32
@@ -162,15 +160,15 @@ pub fn receiver_fresh(state: &mut [u8]) -> u32
     }
 }
 
-// Answers 1 if the bytes are a receiving end in good order, else 0; this is no refusal number.
+// Answers 0 if the bytes are a receiving end in good order, else 14. There is no value.
 pub fn receiver_in_order(state: &[u8]) -> u32
     ensures { λ r. ⌜ r ≡ receiverOrderAnswer (now (state .entry)) ⌝ }
 {
     if is_receiver(state) {
         let end = receiver_in(state);
-        if end.in_order() { 1 } else { 0 }
+        if end.in_order() { 0 } else { NOT_IN_ORDER }
     } else {
-        0
+        NOT_IN_ORDER
     }
 }
 
@@ -198,7 +196,7 @@ pub fn receiver_receive(state: &mut [u8], ps: u8) -> u32
 }
 
 // Answers the PR to send now, which is the value, and sets the count of packets not yet told to 0.
-// Refused with 14.
+// Refused with 14. If PR is told, only the byte of the count is written.
 pub fn receiver_tell(state: &mut [u8]) -> u32
     ensures { λ r. ⌜ r ≡ tellAnswer (now (state .entry)) ⌝ }
     ensures { λ _. ⌜ now (state .exit) ≡ tellBytes (now (state .entry)) ⌝ }
@@ -207,8 +205,14 @@ pub fn receiver_tell(state: &mut [u8]) -> u32
         let end = receiver_in(state);
         let told = end.tell();
         let answer = told.answer;
-        put_receiver(state, told.next);
-        telling_answer(answer)
+        match answer {
+            Telling::Tell(pr) => {
+                let after = told.next;
+                state[2] = after.untold;
+                256 * pr.0 as u32
+            }
+            Telling::Refused(why) => why.number() as u32,
+        }
     } else {
         NOT_IN_ORDER
     }

@@ -83,6 +83,15 @@ same-members k a b ha hb e = same-bits k a b ha hb (λ j l. bit-member a j ∙ a
 pub member-past : (k w j : ℕ) → w < 2 ^ k → k ≤ j → member w j ≡ false
 member-past k w j h l = member-bit w j 0 (bit-past w k j h l)
 
+-- w bits are enough for the word w
+below-power : (w : ℕ) → w < 2 ^ w
+below-power zero = lit< tt
+below-power (suc w) = omega (arith, pow-suc 2 w, below-power w)
+
+-- a set without a member, however wide, is the empty one
+pub no-member : (w : ℕ) → ((j : ℕ) → member w j ≡ false) → w ≡ 0
+no-member w f = same-members w w 0 (below-power w) (pow-pos w) (λ j h. f j ∙ sym (member-none j))
+
 -- ---- the lowest number for which p is true
 
 pub first-le : (k : ℕ) (p : ℕ → Bool) → first k p ≤ k

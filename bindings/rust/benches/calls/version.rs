@@ -82,8 +82,9 @@ impl Version for Library {
     fn form(form: Form) -> u8 {
         match form {
             Form::ShortUplink => 0,
-            Form::LongUplink => 1,
-            Form::LongDownlink(segments) => 2 + segments,
+            Form::LongDownlink(segments @ 1..=16) => segments,
+            Form::LongDownlink(_) => 255,
+            Form::LongUplink => 17,
         }
     }
 

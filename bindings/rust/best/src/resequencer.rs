@@ -60,16 +60,12 @@ impl Resequencer {
 
     /// A packet arrives.
     #[inline]
-    pub fn arrive(
-        &mut self,
-        sn: u8,
-        ticket: u16,
-        out: &mut [u16; PLACES],
-    ) -> Result<Answer, Refusal> {
+    pub fn arrive(&mut self, sn: u8, ticket: u16, out: &mut [u16]) -> Result<Answer, Refusal> {
         let held = self.held_in_order().ok_or(Refusal::NotInOrder)?;
         if sn > 63 {
             return Err(Refusal::OutOfRange);
         }
+        let out = out.first_chunk_mut().ok_or(Refusal::OutputTooShort)?;
         *out = [0; PLACES];
         let distance = sn.wrapping_sub(self.nesn) & 63;
         let (outcome, count) = if distance == 0 {
@@ -129,11 +125,14 @@ impl Resequencer {
 
     /// The clock of a number ends.
     #[inline]
-    pub fn clock_end(&mut self, sn: u8, out: &mut [u16; PLACES]) -> Result<Answer, Refusal> {
+    pub fn clock_end(&mut self, sn: u8, out: &mut [u16]) -> Result<Answer, Refusal> {
         let held = self.held_in_order().ok_or(Refusal::NotInOrder)?;
         if sn > 63 {
             return Err(Refusal::OutOfRange);
         }
+        let out = out
+            .first_chunk_mut::<PLACES>()
+            .ok_or(Refusal::OutputTooShort)?;
         if self.clocks >> sn & 1 == 0 {
             return Err(Refusal::NoClock);
         }

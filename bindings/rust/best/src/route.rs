@@ -42,7 +42,8 @@ fn for_each(mut list: &[u8], ad: u8, mut work: impl FnMut(u16, u8)) {
 impl Table {
     /// Changes the table by a route list; answers how many addresses stand in `lost`.
     #[inline]
-    pub fn update(&mut self, list: &[u8], lost: &mut [u8; 256]) -> Result<usize, Refusal> {
+    pub fn update(&mut self, list: &[u8], lost: &mut [u8]) -> Result<usize, Refusal> {
+        let lost = lost.first_chunk_mut().ok_or(Refusal::OutputTooShort)?;
         if list.len() > 255 || !is_whole(list) {
             return Err(Refusal::RouteListMalformed);
         }

@@ -3,6 +3,7 @@
 use plain::frame::{Form, Packet};
 use plain::message::Start;
 use plain::resequencer::PLACES;
+use plain::route::LOST;
 
 /// Splitmix64.
 struct Random(u64);
@@ -35,6 +36,17 @@ impl Random {
             byte
         } else {
             byte & ((1 << bits) - 1)
+        }
+    }
+
+    /// How many places for results are lent: mostly as many as are needed, else fewer or more.
+    fn places(&mut self, needed: usize) -> usize {
+        match self.below(16) {
+            0 => needed - 1,
+            1 => self.below(needed),
+            2 => needed + 1,
+            3 => needed + self.below(needed),
+            _ => needed,
         }
     }
 
@@ -80,7 +92,8 @@ fn windows() {
 /// One event on both; answers and memory must agree.
 fn event(random: &mut Random, state: &mut plain::resequencer::Resequencer) {
     let mut fast = best::resequencer::Resequencer::from_plain(state);
-    let (mut out, mut fast_out) = ([0xABCD; PLACES], [0xABCD; PLACES]);
+    let mut out = vec![0xABCD; random.places(PLACES)];
+    let mut fast_out = out.clone();
     let ticket = random.next() as u16;
     if random.one_in(6) && state.clocks != 0 {
         let turned = state.clocks.rotate_right(u32::from(ticket) & 63);
@@ -285,7 +298,8 @@ fn routes_and_choice() {
             list.truncate(random.below(list.len() + 1));
         }
         let mut fast = best::route::Table { codes: table.codes };
-        let (mut fast_lost, mut lost) = ([9; 256], [9; 256]);
+        let mut lost = vec![9; random.places(LOST)];
+        let mut fast_lost = lost.clone();
         let answer = table.update(&list, &mut lost);
         assert_eq!(fast.update(&list, &mut fast_lost), answer);
         assert!(fast.codes == table.codes && fast_lost == lost);

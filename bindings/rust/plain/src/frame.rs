@@ -24,8 +24,8 @@ impl Form {
     pub fn from_number(number: u8) -> Result<Self, Refusal> {
         match number {
             0 => Ok(Form::ShortUplink),
-            1 => Ok(Form::LongUplink),
-            3..=18 => Ok(Form::LongDownlink(number - 2)),
+            segments @ 1..=16 => Ok(Form::LongDownlink(segments)),
+            17 => Ok(Form::LongUplink),
             _ => Err(Refusal::OutOfRange),
         }
     }
@@ -80,30 +80,36 @@ pub const CLEAR_CONFIRMATION_HEADER: usize = 4;
 const CLEAR_REQUEST: u8 = 0x58;
 const CLEAR_CONFIRMATION: u8 = 0x5C;
 
+/// The bytes of a packet as the interface lays it out.
+pub const PACKET_BYTES: usize = 10;
+
 impl Packet {
-    /// A packet as the interface lays it out; a kind that is none, or a flag over 1, is refused.
-    pub fn from_bytes(bytes: &[u8; 10]) -> Result<Self, Refusal> {
-        let [kind, b1, b2, b3, b4, b5, b6, b7, b8, b9] = *bytes;
-        match kind {
-            0 => Ok(Packet::Data {
+    /// A packet as the interface lays it out. Refused are: another number of bytes, a kind that is
+    /// none, a flag over 1, and a byte other than 0 where the kind has no field.
+    pub fn from_bytes(bytes: &[u8]) -> Result<Self, Refusal> {
+        let &[kind, b1, b2, b3, b4, b5, b6, b7, b8, b9] = bytes else {
+            return Err(Refusal::OutOfRange);
+        };
+        match (kind, [b6, b7, b8, b9]) {
+            (0, [0, 0, 0, 0]) => Ok(Packet::Data {
                 m: flag(b1)?,
                 sn: b2,
                 ps: b3,
                 pr: b4,
                 ch: b5,
             }),
-            1 => Ok(Packet::ClearRequest {
+            (1, [cc, dc, s, f]) => Ok(Packet::ClearRequest {
                 tc: b1,
                 sn: b2,
                 ch: b3,
                 am: b4,
                 ag: b5,
-                cc: b6,
-                dc: b7,
-                s: flag(b8)?,
-                f: flag(b9)?,
+                cc,
+                dc,
+                s: flag(s)?,
+                f: flag(f)?,
             }),
-            2 => Ok(Packet::ClearConfirmation {
+            (2, [0, 0, 0, 0]) => Ok(Packet::ClearConfirmation {
                 tc: b1,
                 sn: b2,
                 ch: b3,
@@ -114,7 +120,7 @@ impl Packet {
         }
     }
 
-    pub fn to_bytes(self) -> [u8; 10] {
+    pub fn to_bytes(self) -> [u8; PACKET_BYTES] {
         match self {
             Packet::Data { m, sn, ps, pr, ch } => [0, u8::from(m), sn, ps, pr, ch, 0, 0, 0, 0],
             Packet::ClearRequest {
@@ -463,6 +469,40 @@ mod tests {
             [1, 0, 0, 0, 0, 0, 0, 0, 0, 2],
         ] {
             assert_eq!(Packet::from_bytes(&bad), Err(Refusal::OutOfRange));
+        }
+    }
+
+    #[test]
+    fn a_packet_has_ten_bytes() {
+        for length in (0..=20).filter(|&length| length != PACKET_BYTES) {
+            let bytes = vec![0; length];
+            assert_eq!(Packet::from_bytes(&bytes), Err(Refusal::OutOfRange));
+        }
+    }
+
+    #[test]
+    fn bytes_without_a_field_are_0() {
+        for kind in [0, 2] {
+            for at in 6..PACKET_BYTES {
+                for bit in 0..8 {
+                    let mut bytes = [kind, 1, 5, 3, 2, 4, 0, 0, 0, 0];
+                    assert!(Packet::from_bytes(&bytes).is_ok());
+                    bytes[at] = 1 << bit;
+                    assert_eq!(Packet::from_bytes(&bytes), Err(Refusal::OutOfRange));
+                }
+            }
+        }
+    }
+
+    #[test]
+    fn numbers_of_forms() {
+        assert_eq!(Form::from_number(0), Ok(Form::ShortUplink));
+        assert_eq!(Form::from_number(17), Ok(LONG));
+        for number in 1..=16 {
+            assert_eq!(Form::from_number(number), Ok(Form::LongDownlink(number)));
+        }
+        for number in 18..=255 {
+            assert_eq!(Form::from_number(number), Err(Refusal::OutOfRange));
         }
     }
 }

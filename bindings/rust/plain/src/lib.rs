@@ -4,12 +4,17 @@
 //!
 //! Every call checks what the rules name, in their order, and answers a [`Refusal`] at the
 //! first thing wrong; it then has changed neither the state nor any lent list.
+//!
+//! [`lent`] has the same calls as the interface makes them, on lent lists and with packed answers.
+//! [`replay`] is the replay program.
 
 pub mod frame;
+pub mod lent;
 pub mod message;
 pub mod number;
 pub mod packed;
 mod refusal;
+pub mod replay;
 pub mod resequencer;
 pub mod route;
 pub mod window;

@@ -1,10 +1,9 @@
 //! Answers as the interface packs them into one number: the refusal's number in the low 8 bits, 0
-//! for done, and the call's values in the bits above.
+//! for done, and the call's values in the bits above, which are 0 after a refusal.
 
 use crate::frame::Packet;
 use crate::message::Cut;
 use crate::resequencer::Answer;
-use crate::route::CLEARING;
 use crate::Refusal;
 
 /// How the interface writes that no code was used before.
@@ -42,14 +41,4 @@ pub fn cutting(result: &Result<Cut, Refusal>) -> u64 {
     answer(result, |made| {
         made.frames as u64 | (made.bytes as u64) << 24
     })
-}
-
-/// A choice: the code; with 8 alone the two clearing codes, above where the code would stand.
-pub fn choice(result: &Result<u8, Refusal>) -> u64 {
-    let (cause, diagnostic) = CLEARING;
-    let clearing = match result {
-        Err(Refusal::NoInterrogator) => u64::from(cause) << 16 | u64::from(diagnostic) << 24,
-        _ => 0,
-    };
-    answer(result, |&code| code.into()) | clearing
 }

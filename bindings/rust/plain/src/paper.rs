@@ -1,5 +1,5 @@
-//! The values that the rules give to check against: P1 to P12, the replay case, and what is
-//! wanted over whole histories.
+//! The values that the rules give to check against: P1 to P12, and what is wanted over whole
+//! histories.
 
 use crate::frame::{self, Form, Packet};
 use crate::resequencer::{Outcome, Resequencer, PLACES};
@@ -128,55 +128,6 @@ fn p12_additions_first() {
         wanted.codes[0x40] = 1 << 5;
         assert_eq!(table, wanted);
     }
-}
-
-/// The line that the replay program prints for an event.
-fn line(state: &Resequencer, result: &str) -> String {
-    let (held, clocks) = (state.held.count_ones(), state.clocks.count_ones());
-    format!("{} {held} {clocks} {result}", state.nesn)
-}
-
-fn replayed(state: &mut Resequencer, event: &str) -> String {
-    let mut words = event.split(' ');
-    let kind = words.next().unwrap();
-    let values: Vec<u16> = words.map(|word| word.parse().unwrap()).collect();
-    let (sn, mut out) = (values[0] as u8, [0; PLACES]);
-    let answer = match kind {
-        "A" => state.arrive(sn, values[1], &mut out),
-        _ => state.clock_end(sn, &mut out),
-    };
-    let result = match answer {
-        Err(refusal) => format!("refused {}", refusal.number()),
-        Ok(answer) => match answer.outcome {
-            Outcome::Held => "-".to_string(),
-            Outcome::Old => "old".to_string(),
-            Outcome::Duplicate => "dup".to_string(),
-            Outcome::HandedOn => {
-                let left = out[..answer.count.into()].iter();
-                left.map(u16::to_string).collect::<Vec<_>>().join(" ")
-            }
-        },
-    };
-    line(state, &result)
-}
-
-#[test]
-fn the_replay_case() {
-    let mut state = Resequencer::fresh();
-    let lines: Vec<String> = ["A 2 7", "A 0 5", "A 1 6", "A 2 7", "E 4"]
-        .iter()
-        .map(|event| replayed(&mut state, event))
-        .collect();
-    assert_eq!(
-        lines,
-        [
-            "0 1 1 -",
-            "1 1 1 5",
-            "3 0 0 6 7",
-            "3 0 0 old",
-            "3 0 0 refused 7"
-        ]
-    );
 }
 
 /// A small generator, enough for these histories.

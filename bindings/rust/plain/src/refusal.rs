@@ -26,4 +26,10 @@ impl Refusal {
     pub fn number(self) -> u8 {
         self as u8
     }
+
+    /// Clearing cause CC and diagnostic code DC with which a call is cleared that was refused so;
+    /// the rules name them for 8 alone.
+    pub fn clearing(self) -> Option<(u8, u8)> {
+        (self == Refusal::NoInterrogator).then_some((141, 162))
+    }
 }

@@ -138,20 +138,23 @@ impl Resequencer {
             .all(|(sn, &ticket)| ticket == 0 || self.holds(sn))
     }
 
-    /// A packet arrives. The tickets that leave stand in `out`, the other places become 0.
+    /// The places for tickets, after what both events check in this order: 14, 1, 5.
     #[inline]
-    pub fn arrive(
-        &mut self,
-        sn: u8,
-        ticket: u16,
-        out: &mut [u16; PLACES],
-    ) -> Result<Answer, Refusal> {
+    fn checked<'a>(&self, sn: u8, out: &'a mut [u16]) -> Result<&'a mut [u16; PLACES], Refusal> {
         if !self.in_order() {
             return Err(Refusal::NotInOrder);
         }
         if sn > HIGHEST {
             return Err(Refusal::OutOfRange);
         }
+        out.first_chunk_mut().ok_or(Refusal::OutputTooShort)
+    }
+
+    /// A packet arrives. The tickets that leave stand at the front of `out`, the others of its
+    /// first 32 places become 0, and places past these are left alone.
+    #[inline]
+    pub fn arrive(&mut self, sn: u8, ticket: u16, out: &mut [u16]) -> Result<Answer, Refusal> {
+        let out = self.checked(sn, out)?;
         out.fill(0);
         let distance = link_distance(self.nesn, sn);
         let (outcome, count) = if distance > 31 {
@@ -187,13 +190,8 @@ impl Resequencer {
 
     /// The clock of a number ends; answers as an arrival does.
     #[inline]
-    pub fn clock_end(&mut self, sn: u8, out: &mut [u16; PLACES]) -> Result<Answer, Refusal> {
-        if !self.in_order() {
-            return Err(Refusal::NotInOrder);
-        }
-        if sn > HIGHEST {
-            return Err(Refusal::OutOfRange);
-        }
+    pub fn clock_end(&mut self, sn: u8, out: &mut [u16]) -> Result<Answer, Refusal> {
+        let out = self.checked(sn, out)?;
         if !self.clock_runs(sn) {
             return Err(Refusal::NoClock);
         }
@@ -331,6 +329,40 @@ mod tests {
         assert_eq!(good.clock_end(4, &mut out), Err(Refusal::NoClock));
         assert_eq!(good.arrive(64, 0, &mut out), Err(Refusal::OutOfRange));
         assert_eq!((good, out), (state(0, &[3, 4]), [4; PLACES]));
+    }
+
+    #[test]
+    fn fewer_places_are_refused_after_1_and_before_7() {
+        let mut bad = state(0, &[3]);
+        bad.tickets[9] = 1;
+        let mut short = [4; PLACES - 1];
+        assert_eq!(bad.arrive(99, 0, &mut short), Err(Refusal::NotInOrder));
+        assert_eq!(bad.clock_end(99, &mut short), Err(Refusal::NotInOrder));
+        let mut good = state(0, &[3]);
+        assert_eq!(good.arrive(64, 0, &mut short), Err(Refusal::OutOfRange));
+        assert_eq!(good.clock_end(64, &mut short), Err(Refusal::OutOfRange));
+        for sn in [0, 3, 4, 40] {
+            let refused = Err(Refusal::OutputTooShort);
+            assert_eq!(good.arrive(sn, 0, &mut short), refused);
+            assert_eq!(good.clock_end(sn, &mut short), refused);
+        }
+        assert_eq!((good, short), (state(0, &[3]), [4; PLACES - 1]));
+    }
+
+    #[test]
+    fn places_past_32_keep_what_they_held() {
+        let mut out = [4; PLACES + 2];
+        let mut state = state(0, &[3]);
+        assert_eq!(state.arrive(5, 8, &mut out), Ok(HELD));
+        assert_eq!(
+            (&out[..PLACES], &out[PLACES..]),
+            (&[0; PLACES][..], &[4; 2][..])
+        );
+        assert_eq!(state.clock_end(5, &mut out).unwrap().count, 2);
+        assert_eq!(
+            (&out[..3], &out[PLACES - 1..]),
+            (&[103, 8, 0][..], &[0, 4, 4][..])
+        );
     }
 
     #[test]

@@ -5,8 +5,10 @@ use crate::Refusal;
 /// The longest route list, in bytes.
 const LONGEST_LIST: usize = 255;
 
-/// The clearing cause and the diagnostic code for a call to an address without interrogator.
-pub const CLEARING: (u8, u8) = (141, 162);
+/// Places for the addresses that lose their last code.
+pub const LOST: usize = 256;
+/// The bytes of a stored table.
+pub const BYTES: usize = 512;
 
 /// For each ground address the set of its codes II.
 #[derive(Clone, Debug, PartialEq, Eq)]
@@ -53,7 +55,7 @@ impl Table {
         Table { codes: [0; 256] }
     }
 
-    pub fn from_bytes(bytes: &[u8; 512]) -> Self {
+    pub fn from_bytes(bytes: &[u8; BYTES]) -> Self {
         let mut codes = [0; 256];
         for (set, pair) in codes.iter_mut().zip(bytes.chunks_exact(2)) {
             *set = u16::from_le_bytes([pair[0], pair[1]]);
@@ -61,8 +63,8 @@ impl Table {
         Table { codes }
     }
 
-    pub fn to_bytes(&self) -> [u8; 512] {
-        let mut bytes = [0; 512];
+    pub fn to_bytes(&self) -> [u8; BYTES] {
+        let mut bytes = [0; BYTES];
         for (pair, set) in bytes.chunks_exact_mut(2).zip(self.codes) {
             pair.copy_from_slice(&set.to_le_bytes());
         }
@@ -84,11 +86,12 @@ impl Table {
         choose(self.codes(address), last, failed)
     }
 
-    /// Changes the table by a route list: all additions, then all deletions. `lost` then has
-    /// the addresses that had a code before and have none after, and 0 in its other places;
-    /// the answer is their number.
+    /// Changes the table by a route list: all additions, then all deletions. The first 256 places
+    /// of `lost` then have the addresses that had a code before and have none after, and 0 after
+    /// these; the answer is their number. Fewer places are refused before the list is looked at.
     #[inline]
-    pub fn update(&mut self, list: &[u8], lost: &mut [u8; 256]) -> Result<usize, Refusal> {
+    pub fn update(&mut self, list: &[u8], lost: &mut [u8]) -> Result<usize, Refusal> {
+        let lost = lost.first_chunk_mut().ok_or(Refusal::OutputTooShort)?;
         if list.len() > LONGEST_LIST {
             return Err(Refusal::RouteListMalformed);
         }
@@ -114,7 +117,7 @@ impl Table {
 
 /// Lists the addresses that had a code and have none now.
 #[inline]
-fn report(before: &[u16; 256], after: &[u16; 256], lost: &mut [u8; 256]) -> usize {
+fn report(before: &[u16; 256], after: &[u16; 256], lost: &mut [u8; LOST]) -> usize {
     lost.fill(0);
     let mut count = 0;
     for address in 0..=255u8 {
@@ -178,6 +181,21 @@ mod tests {
         whole.truncate(252);
         whole.extend([0x51, 1, 2]);
         assert_eq!((whole.len(), refused(&whole)), (255, false));
+    }
+
+    #[test]
+    fn fewer_places_are_refused_first_and_more_are_kept() {
+        let (table, _) = updated(&Table::empty(), &[0x38, 7]);
+        let (mut after, mut short) = (table.clone(), [9; 255]);
+        for list in [&[0x30, 7][..], &[0x30], &[0x30; 300]] {
+            let answer = after.update(list, &mut short);
+            assert_eq!(answer, Err(Refusal::OutputTooShort));
+        }
+        assert_eq!((&after, short), (&table, [9; 255]));
+        let mut long = [9; 258];
+        assert_eq!(after.update(&[0x30, 7], &mut long), Ok(1));
+        assert_eq!((long[0], long[1], long[255]), (7, 0, 0));
+        assert_eq!(long[256..], [9, 9]);
     }
 
     #[test]

@@ -1,13 +1,14 @@
 //! The choice of an interrogator, from a set and from a table.
 
 use pepperknoll::raw;
-use plain::packed::{self, last_used, NO_CODE};
+use plain::packed::{last_used, NO_CODE};
 use plain::route::{self, Table};
 
-use crate::support::{by_number, safe_by_number, Call, Lent, Random, Trial};
+use crate::support::{answer, by_number, safe_by_number, Call, Lent, Random, Trial};
 
 pub fn run(trial: &mut Trial) {
     several_refusals();
+    clearing_codes();
     small_sets(trial);
     random_sets(trial);
     from_tables(trial);
@@ -27,14 +28,37 @@ fn check(trial: &mut Trial, codes: u16, last: u16, failed: u16) {
     let got = unsafe { raw::pk_choose(codes, last, failed) };
     trial.tally.saw(Call::Choose, got.into());
     let what = || format!("codes {codes:x}, last {last}, failed {failed:x}");
-    assert_eq!(u64::from(got), packed::choice(&wanted), "{}", what());
+    let wanted_answer = answer(&wanted, |&code| code.into());
+    assert_eq!(u64::from(got), wanted_answer, "{}", what());
     if let Some(last) = safe_last(last) {
         let safe = pepperknoll::choose(codes, last, failed);
         assert_eq!(safe_by_number(safe), by_number(wanted), "{}", what());
-        let cleared = safe.err().and_then(pepperknoll::Refusal::clearing_codes);
-        let beside = cleared.map_or((0, 0), |codes| (codes.cc, codes.dc));
-        assert_eq!(beside, ((got >> 16) as u8, (got >> 24) as u8), "{}", what());
+        let codes = safe.err().and_then(safe_clearing);
+        assert_eq!(codes, wanted.err().and_then(plain::Refusal::clearing));
     }
+}
+
+/// Cause and diagnostic code of a refusal of the safe crate.
+fn safe_clearing(refusal: pepperknoll::Refusal) -> Option<(u8, u8)> {
+    let codes = refusal.clearing()?;
+    Some((codes.cause, codes.diagnostic))
+}
+
+/// They belong to refusal 8 and to no other, and no answer has them.
+fn clearing_codes() {
+    for refusal in pepperknoll::Refusal::ALL {
+        let wanted = (refusal.number() == 8).then_some((141, 162));
+        assert_eq!(safe_clearing(refusal), wanted, "{refusal}");
+    }
+    let table = Lent::of(&[0; 512]);
+    // SAFETY: the list is lent with its own length; the other call takes numbers only.
+    let answers = unsafe {
+        [
+            raw::pk_choose(0, NO_CODE, 0),
+            raw::pk_table_choose(table.as_ptr(), table.len(), 7, NO_CODE, 0),
+        ]
+    };
+    assert_eq!(answers, [8, 8]);
 }
 
 const LASTS: [u16; 12] = [0, 1, 2, 3, 7, 14, 15, 16, 255, 256, 0xFFFE, NO_CODE];
@@ -111,7 +135,7 @@ fn from_tables(trial: &mut Trial) {
             // SAFETY: the list is lent with its own length.
             let got = unsafe { raw::pk_table_choose(start, length, address, last, failed) };
             trial.tally.saw(Call::TableChoose, got.into());
-            let wanted_answer = packed::choice(&wanted);
+            let wanted_answer = answer(&wanted, |&code| code.into());
             assert_eq!(
                 u64::from(got),
                 wanted_answer,

@@ -2,14 +2,15 @@
 
 use pepperknoll::raw;
 use pepperknoll::{LinkNumber, PacketNumber};
-use plain::frame::{self, Form, Packet};
-use plain::packed;
-use plain::Refusal;
+use plain::frame::{self, Form, Packet, PACKET_BYTES};
+use plain::{lent, Refusal};
 
 use crate::support::{answer, by_number, safe_by_number, Call, Lent, Random, Trial};
 
 pub fn run(trial: &mut Trial) {
     several_refusals(trial);
+    every_form(trial);
+    every_byte_without_a_field(trial);
     every_header_byte(trial);
     every_length_byte(trial);
     every_padding_bit(trial);
@@ -37,7 +38,7 @@ impl Bed {
 #[derive(Debug)]
 struct Writing {
     form: u8,
-    packet: [u8; 10],
+    packet: Vec<u8>,
     user: Vec<u8>,
     room: usize,
 }
@@ -82,27 +83,28 @@ impl Writing {
         Some(out)
     }
 
-    /// The safe call takes what is a form and a packet at all.
+    /// The safe call takes what is a packet at all.
     fn check_safe(&self, wanted: Result<usize, Refusal>, wanted_out: &[u8]) {
-        let (Some(form), Ok(packet)) = (safe_form(self.form), Packet::from_bytes(&self.packet))
-        else {
+        let Ok(packet) = Packet::from_bytes(&self.packet) else {
             return;
         };
-        let mut out = vec![DIRT; self.room];
+        let (form, mut out) = (safe_form(self.form), vec![DIRT; self.room]);
         let got = pepperknoll::write_frame(form, &safe_packet(packet), &self.user, &mut out);
         assert_eq!(safe_by_number(got), by_number(wanted), "{self:?}");
         assert_eq!(out, wanted_out, "{self:?}");
     }
 }
 
-pub fn safe_form(number: u8) -> Option<pepperknoll::Form> {
+/// The form with a number; where the number is none, a form with a wrong number of segments, which
+/// the safe calls have to refuse in the same way.
+pub fn safe_form(number: u8) -> pepperknoll::Form {
     match number {
-        0 => Some(pepperknoll::Form::ShortUplink),
-        1 => Some(pepperknoll::Form::LongUplink),
-        2 => Some(pepperknoll::Form::LongDownlink(0)),
-        3..=18 => Some(pepperknoll::Form::LongDownlink(number - 2)),
-        19 => Some(pepperknoll::Form::LongDownlink(17)),
-        _ => None,
+        0 => pepperknoll::Form::ShortUplink,
+        1..=16 => pepperknoll::Form::LongDownlink(number),
+        17 => pepperknoll::Form::LongUplink,
+        18 => pepperknoll::Form::LongDownlink(17),
+        19 => pepperknoll::Form::LongDownlink(0),
+        _ => pepperknoll::Form::LongDownlink(number),
     }
 }
 
@@ -148,13 +150,23 @@ fn safe_packet(packet: Packet) -> pepperknoll::Packet {
     }
 }
 
-/// Reads a frame with all three.
+/// How many places for the packet of a read are lent: mostly 10, at times more, seldom fewer.
+fn some_places(random: &mut Random) -> usize {
+    match random.below(32) {
+        0 => random.below(PACKET_BYTES),
+        1..=3 => PACKET_BYTES + 1 + random.below(20),
+        _ => PACKET_BYTES,
+    }
+}
+
+/// Reads a frame with all three; gives the packet that the frame holds.
 fn check_read(trial: &mut Trial, bed: &mut Bed, form: u8, frame: &[u8]) -> Option<Packet> {
-    let what = || format!("form {form}, frame {frame:x?}");
-    let wanted = Form::from_number(form).and_then(|form| frame::read(form, frame));
-    let before = [DIRT; 10];
+    let places = some_places(&mut trial.random);
+    let what = || format!("form {form}, {places} places, frame {frame:x?}");
+    let mut packet = vec![DIRT; places];
     bed.frame.lend(frame);
-    bed.packet.lend(&before);
+    bed.packet.lend(&packet);
+    let wanted = lent::frame_read(form, frame, &mut packet);
     // SAFETY: two lists apart, each lent with its own length.
     let got = unsafe {
         raw::pk_frame_read(
@@ -166,50 +178,53 @@ fn check_read(trial: &mut Trial, bed: &mut Bed, form: u8, frame: &[u8]) -> Optio
         )
     };
     trial.tally.saw(Call::FrameRead, got);
-    assert_eq!(got, packed::reading(&wanted), "{}", what());
-    let packet = wanted.map_or(before, |(packet, _)| packet.to_bytes());
+    assert_eq!(got, wanted, "{}", what());
     bed.packet.assert_holds(&packet, what);
     bed.frame.assert_holds(frame, what);
-    if let Some(form) = safe_form(form) {
-        let safe = pepperknoll::read_frame(form, frame);
-        let wanted = wanted.map(|(packet, user)| (safe_packet(packet), user));
-        assert_eq!(safe_by_number(safe), by_number(wanted), "{}", what());
-    }
-    wanted.ok().map(|(packet, _)| packet)
+    // The safe call brings its own places, always enough.
+    let safe = pepperknoll::read_frame(safe_form(form), frame);
+    let read = Form::from_number(form).and_then(|form| frame::read(form, frame));
+    let wanted = read.map(|(packet, user)| (safe_packet(packet), user));
+    assert_eq!(safe_by_number(safe), by_number(wanted), "{}", what());
+    read.ok().map(|(packet, _)| packet)
 }
 
 /// A form's number: mostly one that is a form.
 pub fn some_form(random: &mut Random) -> u8 {
     match random.below(64) {
         0 => random.byte(),
-        1 => random.pick(&[2, 19, 255]),
+        1 => random.pick(&[18, 19, 255]),
         2..=20 => 0,
-        21..=40 => 1,
-        41..=50 => 3 + random.below(3) as u8,
-        _ => 3 + random.below(16) as u8,
+        21..=40 => 17,
+        41..=50 => 1 + random.below(3) as u8,
+        _ => 1 + random.below(16) as u8,
     }
 }
 
-/// A packet's bytes, each mostly in its field; bytes that are not named are anything.
-fn some_packet(random: &mut Random) -> [u8; 10] {
-    let mut bytes = [0; 10];
-    bytes.copy_from_slice(&random.bytes(10));
+/// A packet's bytes, each mostly in its field; those without a field are seldom other than 0, and
+/// seldom are there more bytes than ten, or fewer.
+fn some_packet(random: &mut Random) -> Vec<u8> {
     let kind = random.pick(&[0, 0, 0, 1, 1, 2]);
     let widths: &[u32] = match kind {
         0 => &[1, 6, 4, 4, 4],
         1 => &[2, 6, 4, 4, 8, 8, 8, 1, 1],
         _ => &[2, 6, 4, 4, 8],
     };
-    for (byte, &bits) in bytes[1..].iter_mut().zip(widths) {
-        if bits < 8 {
-            *byte = random.field(bits);
-        }
+    let mut bytes = vec![kind; 1];
+    for &bits in widths {
+        bytes.push(match bits {
+            8 => random.byte(),
+            _ => random.field(bits),
+        });
     }
-    bytes[0] = if random.one_in(64) {
-        random.byte()
-    } else {
-        kind
-    };
+    bytes.resize(PACKET_BYTES, 0);
+    let free = 1 + widths.len()..PACKET_BYTES;
+    match random.below(64) {
+        0 => bytes[0] = random.byte(),
+        1 if !free.is_empty() => bytes[free.start + random.below(free.len())] = random.byte(),
+        2 if random.one_in(2) => bytes.resize(random.below(2 * PACKET_BYTES), 0),
+        _ => (),
+    }
     bytes
 }
 
@@ -234,7 +249,8 @@ fn some_user_length(random: &mut Random, form: u8, kind: u8) -> usize {
 
 fn some_writing(random: &mut Random) -> Writing {
     let (form, packet) = (some_form(random), some_packet(random));
-    let length = some_user_length(random, form, packet[0]);
+    let kind = packet.first().copied().unwrap_or(0);
+    let length = some_user_length(random, form, kind);
     let mut writing = Writing {
         form,
         packet,
@@ -293,6 +309,58 @@ fn written_and_damaged(trial: &mut Trial) {
     }
 }
 
+/// Each number of a form, 256 of them, by the largest packet: it is written, and read back, and a
+/// byte more is 13. Where there is no such form, all of this is 1.
+fn every_form(trial: &mut Trial) {
+    let mut bed = Bed::new();
+    for form in 0..=255 {
+        let largest = match form {
+            0 => 28,
+            17 => 152,
+            _ => 10 * usize::from(form),
+        };
+        let mut writing = Writing {
+            form,
+            packet: vec![0; PACKET_BYTES],
+            user: vec![0x77; largest - 3],
+            room: largest + 10,
+        };
+        let frame = writing.check(trial, &mut bed);
+        assert_eq!(frame.is_some(), form <= 17, "form {form}");
+        let frame = frame.unwrap_or(vec![0x80, 0, 3, 0, 0, 0, 0, 0, 0, 0]);
+        let packet = check_read(trial, &mut bed, form, &frame);
+        assert_eq!(packet.is_some(), form <= 17, "form {form}");
+        writing.user.push(0x77);
+        let refusal = writing.plain(&mut [0; 3000]).unwrap_err();
+        assert_eq!(refusal.number(), if form <= 17 { 13 } else { 1 });
+        writing.check(trial, &mut bed);
+    }
+}
+
+/// Each value of each byte that a kind has no use for: 0 is good, any other is 1, also where there
+/// is no room. Of a CLEAR REQUEST every byte is used.
+fn every_byte_without_a_field(trial: &mut Trial) {
+    let mut bed = Bed::new();
+    for kind in [0, 2] {
+        for at in 6..PACKET_BYTES {
+            for value in 0..=255 {
+                for room in [10, 0] {
+                    let mut packet = vec![kind, 1, 5, 3, 2, 4, 0, 0, 0, 0];
+                    packet[at] = value;
+                    let writing = Writing {
+                        form: 17,
+                        packet,
+                        user: Vec::new(),
+                        room,
+                    };
+                    let done = writing.check(trial, &mut bed).is_some();
+                    assert_eq!(done, value == 0 && room == 10, "{writing:?}");
+                }
+            }
+        }
+    }
+}
+
 /// Good frames to start from, in one to three segments.
 fn good_frames(form: u8) -> Vec<Vec<u8>> {
     let packets = [
@@ -306,7 +374,7 @@ fn good_frames(form: u8) -> Vec<Vec<u8>> {
             let mut out = vec![0; 200];
             let writing = Writing {
                 form,
-                packet,
+                packet: packet.to_vec(),
                 user: vec![0x77; length],
                 room: 0,
             };
@@ -322,7 +390,7 @@ fn good_frames(form: u8) -> Vec<Vec<u8>> {
 /// Each byte of the header with each of its 256 values.
 fn every_header_byte(trial: &mut Trial) {
     let mut bed = Bed::new();
-    for form in [0, 1, 3, 4, 5] {
+    for form in [0, 17, 1, 2, 3] {
         for good in good_frames(form) {
             for at in 0..7 {
                 for value in 0..=255 {
@@ -361,7 +429,7 @@ fn every_length_byte(trial: &mut Trial) {
 /// Each bit of whole frames, and each length that is cut or drawn out.
 fn every_padding_bit(trial: &mut Trial) {
     let mut bed = Bed::new();
-    for form in [0, 1, 3, 4, 5, 18] {
+    for form in [0, 17, 1, 2, 3, 16] {
         for good in good_frames(form) {
             for bit in 0..good.len() * 8 {
                 let mut frame = good.clone();
@@ -380,27 +448,33 @@ fn every_padding_bit(trial: &mut Trial) {
 /// Inputs that deserve several refusals, by the numbers that the rules put first.
 fn several_refusals(trial: &mut Trial) {
     let mut bed = Bed::new();
-    let data = [0, 0, 0, 0, 0, 0, 0, 0, 0, 0];
-    let wide = [0, 0, 64, 0, 0, 0, 0, 0, 0, 0];
-    let no_kind = [3, 0, 0, 0, 0, 0, 0, 0, 0, 0];
-    let confirmation = [2, 0, 0, 0, 0, 0, 9, 9, 9, 9];
+    let data: &[u8] = &[0, 0, 0, 0, 0, 0, 0, 0, 0, 0];
+    let wide = &[0, 0, 64, 0, 0, 0, 0, 0, 0, 0];
+    let no_kind = &[3, 0, 0, 0, 0, 0, 0, 0, 0, 0];
+    let confirmation = &[2, 0, 0, 0, 0, 0, 0, 0, 0, 0];
+    let unused = &[2, 0, 0, 0, 0, 0, 0, 0, 0, 9];
     let cases = [
-        (2, data, 200, 0, 1), // no form, too long, no room
-        (1, wide, 200, 0, 1),
-        (1, no_kind, 200, 0, 1),
-        (1, confirmation, 1, 0, 1),
-        (1, confirmation, 200, 0, 1),
-        (1, data, 150, 0, 13),
-        (1, data, 149, 159, 5),
-        (1, confirmation, 0, 9, 5),
+        (18, data, 200, 0, 1), // no form, too long, no room
+        (255, data, 200, 0, 1),
+        (17, wide, 200, 0, 1),
+        (17, no_kind, 200, 0, 1),
+        (17, unused, 0, 0, 1),
+        (17, &data[..9], 200, 0, 1), // a packet of 9 bytes, too long, no room
+        (17, &[0; 11], 200, 0, 1),
+        (17, &[], 0, 10, 1),
+        (17, confirmation, 1, 0, 1),
+        (17, confirmation, 200, 0, 1),
+        (17, data, 150, 0, 13),
+        (17, data, 149, 159, 5),
+        (17, confirmation, 0, 9, 5),
         (0, data, 26, 0, 13),
+        (1, data, 8, 0, 13),
     ];
     for (form, packet, length, room, number) in cases {
-        let user = vec![1; length];
         let writing = Writing {
             form,
-            packet,
-            user,
+            packet: packet.to_vec(),
+            user: vec![1; length],
             room,
         };
         let refusal = writing.plain(&mut vec![DIRT; room]).unwrap_err();
@@ -417,14 +491,15 @@ fn reading_several_refusals(trial: &mut Trial, bed: &mut Bed) {
     long_and_wrong[19] = 1;
     let mut two_segments = vec![0; 20]; // of a packet that has one
     two_segments[0] = 0x5C;
-    let cases: [(u8, &[u8], u8); 7] = [
-        (2, &[], 1),
-        (1, &[], 2),
-        (1, &[0xFF; 11], 2),
-        (1, &[0x01; 20], 3),
-        (3, &long_and_wrong, 3),
-        (3, &long, 13),
-        (3, &two_segments, 3),
+    let cases: [(u8, &[u8], u8); 8] = [
+        (18, &[], 1),
+        (255, &[], 1),
+        (17, &[], 2),
+        (17, &[0xFF; 11], 2),
+        (17, &[0x01; 20], 3),
+        (1, &long_and_wrong, 3),
+        (1, &long, 13),
+        (1, &two_segments, 3),
     ];
     for (form, frame, number) in cases {
         let wanted = Form::from_number(form).and_then(|form| frame::read(form, frame));

@@ -11,6 +11,7 @@ use crate::support::{answer, by_number, safe_by_number, Call, Lent, Random, Tria
 
 pub fn run(trial: &mut Trial) {
     several_refusals(trial);
+    every_form(trial);
     every_length(trial);
     cut_and_changed(trial);
     frames_of_any_size(trial);
@@ -98,9 +99,7 @@ impl Cutting {
     }
 
     fn check_safe(&self, wanted: Result<Cut, Refusal>, out: &[u8], lengths: &[usize]) {
-        let Some(form) = safe_form(self.form) else {
-            return;
-        };
+        let form = safe_form(self.form);
         let start = pepperknoll::Start {
             sn: LinkNumber(self.start.sn),
             ps: PacketNumber(self.start.ps),
@@ -159,10 +158,7 @@ impl Joining {
     }
 
     fn check_safe(&self, wanted: Result<usize, Refusal>, wanted_out: &[u8]) {
-        let Some(form) = safe_form(self.form) else {
-            return;
-        };
-        let mut out = vec![DIRT; self.room];
+        let (form, mut out) = (safe_form(self.form), vec![DIRT; self.room]);
         let safe = pepperknoll::join(form, &self.lengths, &self.frames, &mut out);
         assert_eq!(safe_by_number(safe), by_number(wanted), "{self:x?}");
         assert_eq!(out, wanted_out, "{self:x?}");
@@ -361,6 +357,42 @@ fn cut_and_changed(trial: &mut Trial) {
     }
 }
 
+/// Each number of a form, 256 of them: a message that makes a different number of frames in most
+/// of the 18 that are forms, and comes back.
+fn every_form(trial: &mut Trial) {
+    let mut bed = Bed::new();
+    let start = Start {
+        sn: 62,
+        ps: 15,
+        pr: 1,
+        ch: 2,
+    };
+    for form in 0..=255 {
+        let cutting = Cutting {
+            form,
+            start,
+            message: trial.random.bytes(1300),
+            room: 2000,
+            places: 200,
+        };
+        let made = cutting.check(trial, &mut bed);
+        assert_eq!(made.is_some(), form <= 17, "form {form}");
+        let frames = made.unwrap_or(Joining {
+            form,
+            lengths: vec![10],
+            frames: vec![0x80, 0, 3, 0, 0, 0, 0, 0, 0, 0],
+            room: 0,
+        });
+        let back = by_number(frames.check(trial, &mut bed));
+        let wanted = if form <= 17 {
+            Ok(cutting.message)
+        } else {
+            Err(1)
+        };
+        assert_eq!(back, wanted, "form {form}");
+    }
+}
+
 /// Each length in each form comes back; in the long setting all of them.
 fn every_length(trial: &mut Trial) {
     let mut bed = Bed::new();
@@ -371,7 +403,7 @@ fn every_length(trial: &mut Trial) {
         ch: 6,
     };
     let step = trial.times(61, 3) as usize;
-    for form in [0, 1].into_iter().chain(3..=18) {
+    for form in 0..=17 {
         let around = (0..320).chain((320..4080).step_by(step)).chain(4080..=4097);
         for length in around {
             let cutting = Cutting {
@@ -422,7 +454,7 @@ fn run_of_frames(random: &mut Random, form: u8, count: usize, most: usize) -> Jo
 fn frames_of_any_size(trial: &mut Trial) {
     let mut bed = Bed::new();
     for _ in 0..trial.times(8_000, 60_000) {
-        let form = trial.random.pick(&[0, 1, 1, 3, 4, 10, 18]);
+        let form = trial.random.pick(&[0, 17, 17, 1, 2, 8, 16]);
         let count = 1 + trial.random.below(6);
         let good = run_of_frames(&mut trial.random, form, count, 160);
         assert!(good.check(trial, &mut bed).is_ok());
@@ -432,7 +464,7 @@ fn frames_of_any_size(trial: &mut Trial) {
     }
     for _ in 0..trial.times(300, 3_000) {
         let count = 50 + trial.random.below(9);
-        let mut long = run_of_frames(&mut trial.random, 1, count, 149);
+        let mut long = run_of_frames(&mut trial.random, 17, count, 149);
         // Half the runs carry over 4,096 bytes; some lack room as well, or break late.
         if trial.random.one_in(3) {
             long.room = trial.random.below(long.room);
@@ -448,7 +480,7 @@ fn frames_of_any_size(trial: &mut Trial) {
 fn at_the_longest(trial: &mut Trial, bed: &mut Bed) {
     for total in 4094..=4098 {
         let mut joining = Joining {
-            form: 1,
+            form: 17,
             lengths: Vec::new(),
             frames: Vec::new(),
             room: total,
@@ -492,13 +524,15 @@ fn several_refusals(trial: &mut Trial) {
     };
     let wide = Start { sn: 64, ..start };
     for (form, start, length, room, places, number) in [
-        (2, start, 5000, 0, 0, 1),
-        (1, wide, 5000, 0, 0, 1),
-        (1, Start { pr: 16, ..start }, 5000, 0, 0, 1),
-        (1, start, 4097, 0, 0, 4),
-        (1, start, 4096, 0, 0, 5),
-        (1, start, 150, 170, 1, 5),
-        (1, start, 150, 169, 2, 5),
+        (18, start, 5000, 0, 0, 1),
+        (255, start, 5000, 0, 0, 1),
+        (17, wide, 5000, 0, 0, 1),
+        (17, Start { pr: 16, ..start }, 5000, 0, 0, 1),
+        (17, start, 4097, 0, 0, 4),
+        (17, start, 4096, 0, 0, 5),
+        (17, start, 150, 170, 1, 5),
+        (17, start, 150, 169, 2, 5),
+        (16, start, 158, 170, 1, 5),
     ] {
         let cutting = Cutting {
             form,
@@ -533,26 +567,27 @@ fn three(changes: &[(usize, u8)]) -> Vec<u8> {
 fn joining_several_refusals(trial: &mut Trial, bed: &mut Bed) {
     let tens = vec![10; 3];
     let cases = [
-        (2, vec![], vec![], 0, 1),
-        (1, vec![], vec![], 0, 2),
-        (1, vec![], three(&[]), 0, 2),
-        (1, vec![usize::MAX, 31], three(&[]), 3, 2),
-        (1, vec![10; 4], three(&[(0, 0)]), 0, 2), // the sum before the first frame's 3
-        (1, vec![10, 0, 20], three(&[(0, 0)]), 0, 3), // frame 0's 3 before frame 1's 2
-        (1, vec![10, 0, 20], three(&[]), 0, 2),
-        (1, tens.clone(), three(&[(10, 0x85)]), 0, 3), // M before the run
-        (1, tens.clone(), three(&[(10, 0xC5), (29, 1)]), 0, 17), // frame 1's 17, frame 2's 3
-        (1, tens.clone(), three(&[(20, 0xC5)]), 0, 17), // the run before the last M
-        (1, tens.clone(), three(&[(20, 0xC1)]), 0, 2), // the last M before no room
+        (18, vec![], vec![], 0, 1),
+        (255, vec![], vec![], 0, 1),
+        (17, vec![], vec![], 0, 2),
+        (17, vec![], three(&[]), 0, 2),
+        (17, vec![usize::MAX, 31], three(&[]), 3, 2),
+        (17, vec![10; 4], three(&[(0, 0)]), 0, 2), // the sum before the first frame's 3
+        (17, vec![10, 0, 20], three(&[(0, 0)]), 0, 3), // frame 0's 3 before frame 1's 2
+        (17, vec![10, 0, 20], three(&[]), 0, 2),
+        (17, tens.clone(), three(&[(10, 0x85)]), 0, 3), // M before the run
+        (17, tens.clone(), three(&[(10, 0xC5), (29, 1)]), 0, 17), // frame 1's 17, frame 2's 3
+        (17, tens.clone(), three(&[(20, 0xC5)]), 0, 17), // the run before the last M
+        (17, tens.clone(), three(&[(20, 0xC1)]), 0, 2), // the last M before no room
         (
-            1,
+            17,
             tens.clone(),
             three(&[(20, 0x5C), (21, 0), (22, 0)]),
             0,
             3,
         ), // not DATA
-        (1, tens.clone(), three(&[]), 2, 5),
-        (3, vec![20, 10], three(&[(10, 0)]), 0, 13), // too long before no room
+        (17, tens.clone(), three(&[]), 2, 5),
+        (1, vec![20, 10], three(&[(10, 0)]), 0, 13), // too long before no room
         (0, tens, three(&[(0, 0)]), 0, 2),           // no whole segments before first bits
     ];
     for (form, lengths, frames, room, number) in cases {

@@ -59,20 +59,32 @@ impl States {
     fn in_order(&self, trial: &mut Trial) {
         let wanted = self.plain.in_order();
         // SAFETY: the list is lent with its own length.
-        let yes = unsafe { raw::pk_resequencer_in_order(self.lent.as_ptr(), self.lent.len()) };
-        trial.tally.saw(Call::ResequencerInOrder, yes.into());
-        assert_eq!(yes, wanted.into(), "{:?}", self.plain);
+        let got = unsafe { raw::pk_resequencer_in_order(self.lent.as_ptr(), self.lent.len()) };
+        trial.tally.saw(Call::ResequencerInOrder, got.into());
+        assert_eq!(got, if wanted { 0 } else { 14 }, "{:?}", self.plain);
         assert_eq!(self.safe.in_order(), wanted);
         let bytes = self.plain.to_bytes();
         self.lent.assert_holds(&bytes, || "in order".into());
     }
 
-    /// One event on all three; answers, tickets and states must agree.
+    /// One event on all three, with as many places for tickets as it takes, too few or more.
     fn event(&mut self, trial: &mut Trial, event: Event) -> Result<Answer, plain::Refusal> {
+        let places = some_places(&mut trial.random);
+        self.event_into(trial, event, places)
+    }
+
+    /// One event on all three; answers, tickets and states must agree.
+    fn event_into(
+        &mut self,
+        trial: &mut Trial,
+        event: Event,
+        places: usize,
+    ) -> Result<Answer, plain::Refusal> {
         let before = self.lent.content().to_vec();
-        let what = || format!("{event:?} on {before:x?}");
-        // The ticket places are lent dirty: a refusal leaves them, anything else fills them.
-        let mut places = [trial.random.word() as u16; PLACES];
+        let what = || format!("{event:?}, {places} places, on {before:x?}");
+        // The ticket places are lent dirty: a refusal leaves them, anything else fills the first
+        // 32 of them and leaves the rest.
+        let mut places = vec![trial.random.word() as u16; places];
         self.tickets.lend(&places);
         let got = self.raw_event(event);
         let (wanted, call) = match event {
@@ -90,7 +102,10 @@ impl States {
         let bytes = self.plain.to_bytes();
         self.tickets.assert_holds(&places, what);
         self.lent.assert_holds(&bytes, what);
-        self.safe_event(event, wanted, &places);
+        // The safe calls bring their own places, always enough.
+        if wanted != Err(plain::Refusal::OutputTooShort) {
+            self.safe_event(event, wanted, &places);
+        }
         assert_eq!(self.safe.as_bytes(), &bytes, "safe call: {}", what());
         wanted
     }
@@ -111,12 +126,7 @@ impl States {
         }
     }
 
-    fn safe_event(
-        &mut self,
-        event: Event,
-        wanted: Result<Answer, plain::Refusal>,
-        places: &[u16; PLACES],
-    ) {
+    fn safe_event(&mut self, event: Event, wanted: Result<Answer, plain::Refusal>, places: &[u16]) {
         let left = |answer: &Answer| &places[..usize::from(answer.count)];
         let wanted = by_number(wanted);
         match event {
@@ -148,6 +158,17 @@ fn plain_outcome(outcome: &pepperknoll::Outcome) -> Outcome {
         pepperknoll::Outcome::HandedOn(_) => Outcome::HandedOn,
         pepperknoll::Outcome::Old => Outcome::Old,
         pepperknoll::Outcome::Duplicate => Outcome::Duplicate,
+    }
+}
+
+/// How many places for tickets are lent: mostly 32, at times more, seldom fewer.
+fn some_places(random: &mut Random) -> usize {
+    match random.below(64) {
+        0 => random.below(PLACES),
+        1 => PLACES - 1,
+        2..=4 => PLACES + 1,
+        5..=7 => PLACES + random.below(70),
+        _ => PLACES,
     }
 }
 
@@ -289,7 +310,7 @@ fn sequence(trial: &mut Trial) {
 fn end_all_clocks(trial: &mut Trial, states: &mut States) {
     while let Some(sn) = some_bit(&mut trial.random, states.plain.clocks) {
         states
-            .event(trial, Event::ClockEnd { sn })
+            .event_into(trial, Event::ClockEnd { sn }, PLACES)
             .expect("it runs");
     }
     assert_eq!(states.plain.held, 0);

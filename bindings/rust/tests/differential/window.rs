@@ -75,11 +75,12 @@ impl Senders {
     }
 
     fn in_order(&self, trial: &mut Trial) {
+        let wanted = self.plain.in_order();
         // SAFETY: the list is lent with its own length.
-        let yes = unsafe { raw::pk_sender_in_order(self.lent.as_ptr(), self.lent.len()) };
-        trial.tally.saw(Call::SenderInOrder, yes.into());
-        assert_eq!(yes, self.plain.in_order().into(), "{:?}", self.plain);
-        assert_eq!(self.safe.in_order(), self.plain.in_order());
+        let got = unsafe { raw::pk_sender_in_order(self.lent.as_ptr(), self.lent.len()) };
+        trial.tally.saw(Call::SenderInOrder, got.into());
+        assert_eq!(got, if wanted { 0 } else { 14 }, "{:?}", self.plain);
+        assert_eq!(self.safe.in_order(), wanted);
         self.same("in order");
     }
 
@@ -194,9 +195,9 @@ impl Receivers {
     fn in_order(&self, trial: &mut Trial) {
         let wanted = self.plain.is_ok_and(|state| state.in_order());
         // SAFETY: the list is lent with its own length.
-        let yes = unsafe { raw::pk_receiver_in_order(self.lent.as_ptr(), self.lent.len()) };
-        trial.tally.saw(Call::ReceiverInOrder, yes.into());
-        assert_eq!(yes, wanted.into(), "{:?}", self.bytes);
+        let got = unsafe { raw::pk_receiver_in_order(self.lent.as_ptr(), self.lent.len()) };
+        trial.tally.saw(Call::ReceiverInOrder, got.into());
+        assert_eq!(got, if wanted { 0 } else { 14 }, "{:?}", self.bytes);
         assert_eq!(self.safe.in_order(), wanted);
         self.same("in order");
     }

@@ -13,4 +13,10 @@ main-spec =
     (tie.spec
     (λ c. sym (length-replicate {A = ℕ} 131072 0))
     (λ c κs. search needs)
+    (λ c. search needs)
+    (λ c κs. search needs)
+    (λ c. search needs)
+    (λ c κs. search needs)
+    (λ c. search needs)
+    (λ c. search needs)
     (λ c. search needs))

@@ -8,10 +8,10 @@ use Rattle.call.proofs.read_all.Statement.{statement}
 use Rattle.call.proofs.read_all.Tie as tie
 
 abbrev Inv-loop : tie.InvT-loop
-Inv-loop input₀ lines₀ kept₀ reads₀ input lines kept reads = (kept ≤ length input) × (length input ≡ length input₀)
+Inv-loop input₀ ending₀ lines₀ kept₀ reads₀ input ending lines kept reads = (kept ≤ length input) × (length input ≡ length input₀)
 
 abbrev μ-loop : tie.MeasureT-loop
-μ-loop input₀ lines₀ kept₀ reads₀ input lines kept reads = reads
+μ-loop input₀ ending₀ lines₀ kept₀ reads₀ input ending lines kept reads = reads
 
 pub read-all-spec : {M : Type 1} → statement M
 read-all-spec =

@@ -7,10 +7,10 @@ use Rattle.call.proofs.run_lines.Statement.{statement}
 use Rattle.call.proofs.run_lines.Tie as tie
 
 abbrev Inv-loop : tie.InvT-loop
-Inv-loop input lines₀ start₀ end₀ lines start end = (start ≤ end) × (end ≤ length input)
+Inv-loop input lines₀ ending₀ start₀ end₀ lines ending start end = (start ≤ end) × (end ≤ length input)
 
 abbrev μ-loop : tie.MeasureT-loop
-μ-loop input lines₀ start₀ end₀ lines start end = length input - end
+μ-loop input lines₀ ending₀ start₀ end₀ lines ending start end = length input - end
 
 pub run-lines-spec : {M : Type 1} → statement M
 run-lines-spec =

@@ -14,6 +14,7 @@ use Rattle.frame.specs.declared.Read.the-variants.{Refused}
 use Rattle.frame.specs.Packets.{kinds}
 use Rattle.frame.specs.Reading.{firstNamed, readOf}
 use Rattle.frame.proofs.Readings.{shapeless, shape-seven}
+use Rattle.frame.proofs.Numbers.{frame-says}
 use Rattle.frame.proofs.read_frame.Statement.{statement}
 use Rattle.frame.proofs.read_frame.Tie as tie
 
@@ -25,15 +26,18 @@ unread form frame why e = shapeless form frame why e (firstNamed kinds (getD fra
 read-whole-requires : tie.Need-read-whole-requires
 read-whole-requires c κs =
     let a = c .before .before .before .before .args in
-    let done = sym (c .before .before .check-shape .ensures) ∙ c .enum-told .given .1 in
+    let done = sym (c .before .before .check-shape .ensures .0) ∙ c .enum-told .given .1 in
     (shape-seven (a .form) (length (a .frame .now)) done, done)
+
+returns : tie.Need-returns
+returns c = frame-says _ _ _ (c .read-whole .ensures)
 
 returns-2 : tie.Need-returns-2
 returns-2 c =
     let a = c .before .before .before .before .before .args in
-    unread (a .form) (a .frame .now) _ (sym (c .before .before .before .check-shape .ensures) ∙ c .before .shape .given .1)
+    frame-says (a .form) (a .frame .now) _ (unread (a .form) (a .frame .now) _ (sym (c .before .before .before .check-shape .ensures .0) ∙ c .before .shape .given .1))
 
 pub read-frame-spec : {M : Type 1} → statement M
 read-frame-spec =
     tie.close
-    (tie.spec (λ c κs. search needs) (λ c. search needs) read-whole-requires (λ c. search needs) (λ c. search needs) returns-2)
+    (tie.spec (λ c κs. search needs) (λ c. search needs) read-whole-requires (λ c. search needs) returns returns-2)

@@ -20,7 +20,7 @@ returns c =
     let from = c .before .from in
     let header = measured .before .before .header-in in
     ap₂ (λ (u : UserLength) (n : ℕ). answer u (from .result) n) (sym (c .before .before .before .length .given .1)) (size-seen (a .kind) (a .frame .now) _ (header .result .seen) (header .ensures))
-    ∙ answered (a .form) (a .frame .now) (a .kind) _ (header .result .seen) _ (from .result) (header .ensures) (measured .user-length .ensures) (from .ensures)
+    ∙ answered (a .form) (a .frame .now) (a .kind) _ (header .result .seen) _ (from .result) (header .ensures) (measured .user-length .ensures .0) (from .ensures)
 
 returns-2 : tie.Need-returns-2
 returns-2 c =
@@ -29,7 +29,7 @@ returns-2 c =
     let header = measured .before .before .header-in in
     let p = packetAt (a .kind) (header .result .number) in
     ap₂ (λ (u : UserLength) (n : ℕ). answer u p n) (sym (c .before .length2 .given .1)) (size-seen (a .kind) (a .frame .now) _ (header .result .seen) (header .ensures))
-    ∙ answered (a .form) (a .frame .now) (a .kind) _ (header .result .seen) _ p (header .ensures) (measured .user-length .ensures) refl
+    ∙ answered (a .form) (a .frame .now) (a .kind) _ (header .result .seen) _ p (header .ensures) (measured .user-length .ensures .0) refl
 
 pub read-known-spec : {M : Type 1} → statement M
 read-known-spec =

@@ -22,7 +22,7 @@ returns c =
     let p = DataPacket (c .from .result) in
     let header = measured .before .before .data-in in
     ap (λ (u : UserLength). answer u p 3) (sym (c .before .before .length .given .1))
-    ∙ answered (a .form) (a .frame .now) Data _ (header .result .seen) _ p (header .ensures) (measured .user-length .ensures) (c .from .ensures)
+    ∙ answered (a .form) (a .frame .now) Data _ (header .result .seen) _ p (header .ensures) (measured .user-length .ensures .0) (c .from .ensures)
 
 returns-2 : tie.Need-returns-2
 returns-2 c =
@@ -31,7 +31,7 @@ returns-2 c =
     let header = measured .before .before .data-in in
     let p = packetAt Data (header .result .number) in
     ap (λ (u : UserLength). answer u p 3) (sym (c .before .length2 .given .1))
-    ∙ answered (a .form) (a .frame .now) Data _ (header .result .seen) _ p (header .ensures) (measured .user-length .ensures) refl
+    ∙ answered (a .form) (a .frame .now) Data _ (header .result .seen) _ p (header .ensures) (measured .user-length .ensures .0) refl
 
 pub read-whole-data-spec : {M : Type 1} → statement M
 read-whole-data-spec =

@@ -7,6 +7,7 @@ use borrow.Author.Needs.{needs}
 use Rattle.frame.specs.declared.Packet.{Packet}
 use Rattle.frame.specs.Parts.{wholeHeader}
 use Rattle.frame.proofs.Headers.{wrote}
+use Rattle.frame.proofs.Numbers.{write-numbers}
 use Rattle.frame.proofs.write_frame.Statement.{statement}
 use Rattle.frame.proofs.write_frame.Tie as tie
 
@@ -25,21 +26,24 @@ returns c =
     let a = met c .before .before .before .before .args in
     let told = met c .packet .given .1 in
     let put = c .before .before .put in
-    wrote (a .form) (a .packet) (a .user .now) (a .out .now) _ _ _ (c .before .before .before .before .whole-header .ensures ∙ ap (λ (p : Packet). wholeHeader (a .form) p (length (a .user .now))) (sym told)) (put .ensures .0) (put .ensures .1)
+    write-numbers (a .form) (a .packet) (a .user .now) (a .out .now) _ _
+    (wrote (a .form) (a .packet) (a .user .now) (a .out .now) _ _ _ (c .before .before .before .before .whole-header .ensures ∙ ap (λ (p : Packet). wholeHeader (a .form) p (length (a .user .now))) (sym told)) (put .ensures .0) (put .ensures .1 .0))
 
 returns-2 : tie.Need-returns-2
 returns-2 c =
     let a = met-2 c .before .before .before .before .args in
     let told = met-2 c .packet2 .given .1 in
     let put = c .before .before .put2 in
-    wrote (a .form) (a .packet) (a .user .now) (a .out .now) _ _ _ (c .before .before .before .before .whole-header2 .ensures ∙ ap (λ (p : Packet). wholeHeader (a .form) p (length (a .user .now))) (sym told)) (put .ensures .0) (put .ensures .1)
+    write-numbers (a .form) (a .packet) (a .user .now) (a .out .now) _ _
+    (wrote (a .form) (a .packet) (a .user .now) (a .out .now) _ _ _ (c .before .before .before .before .whole-header2 .ensures ∙ ap (λ (p : Packet). wholeHeader (a .form) p (length (a .user .now))) (sym told)) (put .ensures .0) (put .ensures .1 .0))
 
 returns-3 : tie.Need-returns-3
 returns-3 c =
     let a = met-3 c .before .before .before .before .args in
     let told = met-3 c .packet3 .given .1 in
     let put = c .before .before .put3 in
-    wrote (a .form) (a .packet) (a .user .now) (a .out .now) _ _ _ (c .before .before .before .before .whole-header3 .ensures ∙ ap (λ (p : Packet). wholeHeader (a .form) p (length (a .user .now))) (sym told)) (put .ensures .0) (put .ensures .1)
+    write-numbers (a .form) (a .packet) (a .user .now) (a .out .now) _ _
+    (wrote (a .form) (a .packet) (a .user .now) (a .out .now) _ _ _ (c .before .before .before .before .whole-header3 .ensures ∙ ap (λ (p : Packet). wholeHeader (a .form) p (length (a .user .now))) (sym told)) (put .ensures .0) (put .ensures .1 .0))
 
 pub write-frame-spec : {M : Type 1} → statement M
 write-frame-spec =

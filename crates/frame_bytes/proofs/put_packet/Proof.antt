@@ -1,9 +1,13 @@
 -- `frame_bytes::put_packet` meets its contract: there is room for all ten bytes.
 -- Assumes nothing.
 use mathlib.Core.Path.{_≡_, sym, ap, _∙_}
+use mathlib.Core.List.{List}
+use Prim.Native.Nat.{ℕ}
+use native.Mathlib.Omega.{arith}
 use lib.ListN.{length}
+use lib.Seq.{take-all}
 use borrow.Author.Needs.{needs}
-use Rattle.lists.proofs.Copying.{copied-whole}
+use Rattle.lists.specs.Lists.{over}
 use Rattle.frame_bytes.proofs.Packets.{ten}
 use Rattle.frame_bytes.proofs.put_packet.Statement.{statement}
 use Rattle.frame_bytes.proofs.put_packet.Tie as tie
@@ -19,7 +23,9 @@ returns : tie.Need-returns
 returns c =
     let made = c .before .before .before .before .before in
     let s = made .before .before in
-    c .before .before .copy-in .ensures ∙ copied-whole (s .args .bytes .now) (made .bytes-of .result) (many made ∙ sym (s .pre)) ∙ made .bytes-of .ensures
+    let o = s .args .bytes .now in
+    c .before .before .copy-in .ensures
+    ∙ ap (λ (x : List ℕ). over x o) (take-all (length o) (made .bytes-of .result) (omega (arith, many made, s .pre)) ∙ made .bytes-of .ensures)
 
 pub put-packet-spec : {M : Type 1} → statement M
 put-packet-spec = tie.close (tie.spec (λ c κs. search needs) slice-aggregate-copy-in (λ c κs. search needs) (λ c. search needs) returns)

@@ -28,6 +28,7 @@ use Rattle.frame_fields.proofs.Rows.{bytes-length}
 use Rattle.frame_form.proofs.Forms.{segment-some}
 use Rattle.frame_form.proofs.Segments.{padding-below, frame-some}
 use Rattle.frame_codec.proofs.Writing.{framed-length}
+use Rattle.frame_codec.proofs.Numbers.{put-numbers}
 use Rattle.frame_codec.proofs.put.Statement.{statement}
 use Rattle.frame_codec.proofs.put.Tie as tie
 
@@ -89,14 +90,16 @@ returns : tie.Need-returns
 returns c =
     let a = start (checked c) .args in
     let pad = checked c .before .padding in
-    done (a .form) (a .head) (a .user .now) (a .out .now) (pad .result) _
-    (sym (checked c .check-put .ensures) ∙ c .before .before .before .before .enum-told .given .1) (pad .ensures .0) (c .before .before .put-frame .ensures)
+    put-numbers (a .form) (a .head) (a .user .now) (a .out .now) _ _
+    (done (a .form) (a .head) (a .user .now) (a .out .now) (pad .result) _
+    (sym (checked c .check-put .ensures) ∙ c .before .before .before .before .enum-told .given .1) (pad .ensures .0) (c .before .before .put-frame .ensures))
 
 returns-2 : tie.Need-returns-2
 returns-2 c =
     let check-place = c .before .before .before in
     let a = start check-place .args in
-    not-done (a .form) (a .head) (a .user .now) (a .out .now) _ (sym (check-place .check-put .ensures) ∙ c .before .verdict .given .1)
+    put-numbers (a .form) (a .head) (a .user .now) (a .out .now) _ _
+    (not-done (a .form) (a .head) (a .user .now) (a .out .now) _ (sym (check-place .check-put .ensures) ∙ c .before .verdict .given .1))
 
 pub put-spec : {M : Type 1} → statement M
 put-spec =

@@ -49,7 +49,7 @@ returns c =
       code ∙ ap cutAnswer (sym (c .before .cut .given .1) ∙ w .ensures .0 ∙ ap (λ (x : Form). cutOf x s m (length o) (length l)) f),
       (
         w .ensures .1 .0 ∙ ap (λ (x : Form). cutOutput x s m o (length l)) f,
-        w .ensures .1 .1 ∙ ap (λ (x : Form). cutLengths x s m (length o) l) f,
+        w .ensures .1 .1 .0 ∙ ap (λ (x : Form). cutLengths x s m (length o) l) f,
       ),
     )
 
@@ -68,7 +68,7 @@ returns-2 c =
           ∙ ap cutAnswer (sym (c .before .before .cut2 .given .1) ∙ w .ensures .0 ∙ ap (λ (x : Form). cutOf x s m (length o) (length l)) f),
       (
         w .ensures .1 .0 ∙ ap (λ (x : Form). cutOutput x s m o (length l)) f,
-        w .ensures .1 .1 ∙ ap (λ (x : Form). cutLengths x s m (length o) l) f,
+        w .ensures .1 .1 .0 ∙ ap (λ (x : Form). cutLengths x s m (length o) l) f,
       ),
     )
 

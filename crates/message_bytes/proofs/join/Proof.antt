@@ -42,7 +42,7 @@ returns c =
     let n = c .before .joined .given .0 .0 in
     let code : 256 * n ≡ 0 + 256 * n = omega arith in (
       code ∙ ap joinedAnswer (sym (c .before .joined .given .1) ∙ w .ensures .0 ∙ ap (λ (x : Form). joinOf x l b (length o)) f),
-      w .ensures .1 ∙ ap (λ (x : Form). joinOutput x l b o) f,
+      w .ensures .1 .0 ∙ ap (λ (x : Form). joinOutput x l b o) f,
     )
 
 returns-2 : tie.Need-returns-2
@@ -58,7 +58,7 @@ returns-2 c =
     let code : n ≡ n + 256 * 0 = omega arith in (
       code ∙ ap (λ (x : ℕ). x + 256 * 0) (c .number .ensures)
           ∙ ap joinedAnswer (sym (c .before .before .joined2 .given .1) ∙ w .ensures .0 ∙ ap (λ (x : Form). joinOf x l b (length o)) f),
-      w .ensures .1 ∙ ap (λ (x : Form). joinOutput x l b o) f,
+      w .ensures .1 .0 ∙ ap (λ (x : Form). joinOutput x l b o) f,
     )
 
 pub join-spec : {M : Type 1} → statement M

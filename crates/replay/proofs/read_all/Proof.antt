@@ -1,4 +1,4 @@
--- `replay::read_all` meets its contract: the output keeps its length, and each turn leaves fewer
+-- `replay::read_all` is safe and ends: the output keeps its length, and each turn leaves fewer
 -- reads.
 -- Assumes nothing.
 use mathlib.Core.Path.{_≡_}
@@ -8,10 +8,10 @@ use Rattle.replay.proofs.read_all.Statement.{statement}
 use Rattle.replay.proofs.read_all.Tie as tie
 
 abbrev Inv-loop : tie.InvT-loop
-Inv-loop input₀ out₀ kept₀ reads₀ input out kept reads = (length input ≡ length input₀) × (length out ≡ length out₀)
+Inv-loop input₀ out₀ turn₀ input out turn = (length input ≡ length input₀) × (length out ≡ length out₀)
 
 abbrev μ-loop : tie.MeasureT-loop
-μ-loop input₀ out₀ kept₀ reads₀ input out kept reads = reads
+μ-loop input₀ out₀ turn₀ input out turn = turn .reads
 
 pub read-all-spec : {M : Type 1} → statement M
 read-all-spec =

@@ -8,10 +8,10 @@ use Rattle.replay_script.proofs.answer_to.Statement.{statement}
 use Rattle.replay_script.proofs.answer_to.Tie as tie
 
 returns : tie.Need-returns
-returns c = arrival-answer _ _ _ (c .before .before .before .line .given .1) (c .before .narrow .ensures) (c .arrive .ensures)
+returns c = arrival-answer _ _ _ (c .before .before .before .line .given .1) (c .before .narrow .ensures) (c .arrive .ensures .0)
 
 returns-2 : tie.Need-returns-2
-returns-2 c = end-answer _ _ (c .before .before .before .line2 .given .1) (c .before .narrow2 .ensures) (c .clock-end .ensures)
+returns-2 c = end-answer _ _ (c .before .before .before .line2 .given .1) (c .before .narrow2 .ensures) (c .clock-end .ensures .0)
 
 returns-3 : tie.Need-returns-3
 unfolding plain

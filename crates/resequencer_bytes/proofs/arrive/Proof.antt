@@ -1,33 +1,30 @@
--- `resequencer_bytes::arrive` meets its contract: memory of another size is refused; else the step
--- of the numbers determines the whole answer.
+-- `resequencer_bytes::arrive` meets its contract: bytes that are no state are refused, then too few
+-- places; else the step of the numbers determines the whole answer.
 -- Assumes nothing.
-use mathlib.Core.Path.{refl, sym, _∙_, subst}
+use mathlib.Core.Path.{_≡_, refl, sym, _∙_, subst}
+use lib.ListN.{length, take}
+use lib.Seq.{length-take-le}
 use borrow.Author.Needs.{needs}
 use Rattle.resequencer.specs.declared.Step.{Step}
-use Rattle.resequencer.specs.Events.{arriveOf}
 use Rattle.resequencer.specs.Numbers.{StepFits}
 use Rattle.resequencer.proofs.Steps.{arrive-fits, arrive-told}
 use Rattle.resequencer_bytes.specs.Stored.{stateIn}
 use Rattle.resequencer_bytes.proofs.Steps.{arrival-tells}
-use Rattle.resequencer_bytes.proofs.Calls.{no-state, no-places, arrival-stays, done, as-written}
+use Rattle.resequencer_bytes.proofs.Checking.{arrive-no-state, arrive-few, arrive-done}
 use Rattle.resequencer_bytes.proofs.arrive.Statement.{statement}
 use Rattle.resequencer_bytes.proofs.arrive.Tie as tie
 
 returns : tie.Need-returns
-returns c = let a = c .before .before .before .args in no-state (arriveOf (stateIn (a .state .now)) (a .sn) (a .ticket)) (a .state .now) (a .tickets .now) (c .if1 .taken)
+returns c = let a = c .before .before .before .args in arrive-no-state (a .state .now) (a .tickets .now) (a .sn) _ (c .if1 .taken)
 
 returns-2 : tie.Need-returns-2
 returns-2 c =
-    let a = c .before .before .before .before .args in
-    no-places (arriveOf (stateIn (a .state .now)) (a .sn) (a .ticket)) (a .state .now) (a .tickets .now) (c .before .if1 .left) (c .if2 .taken)
+    let a = c .before .before .before .before .before .before .args in
+    arrive-few (a .state .now) (a .tickets .now) (a .sn) (c .before .before .if2 .taken) _ _ (c .short-answer .ensures)
 
--- the function's start, and the place where the state's bytes are known to be bytes, seen from the
--- place after both tests of a size
+-- the function's start, seen from the place after both tests of a size
 abbrev start : tie.Else2 → tie.Start
 start c = c .before .before .before .before
-
-abbrev known : tie.Else2 → tie.After-slice-known
-known c = c .before .before .before
 
 -- the place after both tests of a size, seen from the place after `tickets_in_order`; and that
 -- place, seen from the place after `arrive`
@@ -36,6 +33,10 @@ sized c = c .before .before
 
 abbrev tested : tie.After-arrive → tie.After-tickets-in-order
 tested c = c .before .before .before
+
+-- 32 places are lent
+lent : (c : tie.Else2) → length (take 32 (start c .args .tickets .now)) ≡ 32
+lent c = length-take-le 32 (start c .args .tickets .now) (c .if2 .left)
 
 answer-requires : tie.Need-answer-requires
 answer-requires c κs =
@@ -47,7 +48,7 @@ answer-requires c κs =
     let w = arrival-tells (stateIn (a .state .now)) _ (t .tickets-in-order .ensures) _ m (a .sn) _ (n .arrive .ensures) in
     record {
       size = z .before .if1 .left;
-      places = z .if2 .left;
+      places = lent z;
       numbers-are = m;
       fits = subst (λ (s : Step). StepFits (n .before .numbers-in .result .nesn .0) s 1 (a .sn) (a .ticket)) (sym (n .arrive .ensures)) (arrive-fits _ _ (a .sn) (a .ticket));
       order = w .0;
@@ -61,22 +62,23 @@ returns-3 c =
     let t = tested n in
     let z = sized t in
     let a = start z .args in
-    let b = a .state .now in
-    done _ (arriveOf (stateIn b) (a .sn) (a .ticket)) b (a .tickets .now) _ _ _ (z .before .if1 .left) (z .if2 .left)
-    (λ i h. known z .slice-known .given i .fits)
-    (arrive-told (stateIn b) _ _ (a .sn) (a .ticket) _ (n .before .numbers-in .ensures) _ (t .tickets-in-order .ensures) (n .arrive .ensures) refl)
-    (arrival-stays (stateIn b) (a .sn) (a .ticket))
-    (as-written (stateIn b) _ 1 (a .sn) (a .ticket) b (a .tickets .now) _ _ _ (w .answer .ensures))
+    arrive-done (a .state .now) (a .tickets .now) (a .sn) (z .before .if1 .left) (z .if2 .left) _ _ _ _ (w .answer .kept .1 .0 ∙ lent z) (a .ticket)
+    (arrive-told (stateIn (a .state .now)) _ _ (a .sn) (a .ticket) _ (n .before .numbers-in .ensures) _ (t .tickets-in-order .ensures) (n .arrive .ensures) refl)
+    (w .answer .ensures)
 
 pub arrive-spec : {M : Type 1} → statement M
 arrive-spec =
     tie.close
     (tie.spec
     returns
+    (λ c κs. search needs)
+    (λ c. search needs)
     returns-2
     (λ c κs. search needs)
     (λ c κs. search needs)
     (λ c κs. search needs)
+    (λ c. sized (tested (c .before)) .if2 .left)
+    (λ c. sym (lent (sized (tested (c .before .before)))))
     answer-requires
     (λ c. search needs)
     (λ c. search needs)

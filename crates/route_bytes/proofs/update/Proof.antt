@@ -1,5 +1,5 @@
 -- `route_bytes::update` meets its contract: the lengths and the verdict decide the case of
--- `updateOf`.
+-- `updateChecks`.
 -- Assumes nothing.
 use mathlib.Core.Path.{_≡_, ap, _∙_}
 use mathlib.Core.List.{List}
@@ -44,7 +44,7 @@ updated-2 c = c .before .before .before .before
 -- the answer is that of an update of the table in the bytes
 same : (c : tie.After-update) → c .update .result ≡ updateIn (start c .args .table .now) (start c .args .list .now)
 unfolding updateIn
-same c = c .update .ensures ∙ ap (λ (x : List ℕ). updateOf (record { codes = x }) (start c .args .list .now)) (c .before .read-table .ensures)
+same c = c .update .ensures .0 ∙ ap (λ (x : List ℕ). updateOf (record { codes = x }) (start c .args .list .now)) (c .before .read-table .ensures)
 
 returns : tie.Need-returns
 returns c = no-table _ _ _ (c .if1 .taken)
@@ -61,7 +61,7 @@ returns-3 c =
 returns-4 : tie.Need-returns-4
 returns-4 c =
     let u = updated-2 c in
-    refused _ _ _ (table-right u .if1 .left) (places-right u .if2 .left) _ (same u) (λ i h. table-right u .before .before .before .slice-known .given i .fits)
+    refused _ _ _ (table-right u .if1 .left) (places-right u .if2 .left) _ (same u)
     _ (c .before .before .verdict .given .1) _ (c .number .ensures)
 
 pub update-spec : {M : Type 1} → statement M

@@ -10,6 +10,7 @@ use Rattle.route_choice.specs.declared.LastUsed.the-variants.{Code, Noth
 use Rattle.route_choice.specs.declared.Choice.{Choice}
 use Rattle.route_choice.specs.Choosing.{chooseOf}
 use Rattle.route_choice.proofs.Cases.{out-of-range, last-used, not-last-used}
+use Rattle.route_choice.proofs.Numbers.{choose-numbers}
 use Rattle.route_choice.proofs.choose.Statement.{statement}
 use Rattle.route_choice.proofs.choose.Tie as tie
 
@@ -22,19 +23,21 @@ is-member set usables code b m e f g = ap (λ (x : ℕ). member x code) (sym e) 
 
 returns : tie.Need-returns
 returns c =
-    with-last _ _ _ (Code _) (c .before .before .before .before .before .last .given .1) _
-    (last-used _ _ _ (c .before .before .before .if1 .taken) (is-member _ _ _ _ _ (c .before .before .difference .ensures) (c .before .member .ensures) (c .if2 .taken)))
+    choose-numbers _ _ _ _
+    (with-last _ _ _ (Code _) (c .before .before .before .before .before .last .given .1) _
+    (last-used _ _ _ (c .before .before .before .if1 .taken) (is-member _ _ _ _ _ (c .before .before .difference .ensures) (c .before .member .ensures) (c .if2 .taken))))
 
 returns-2 : tie.Need-returns-2
 returns-2 c =
-    with-last _ _ _ (Code _) (c .before .before .before .before .before .before .last .given .1) _
-    (not-last-used _ _ _ (c .before .before .before .before .if1 .taken) (is-member _ _ _ _ _ (c .before .before .before .difference .ensures) (c .before .before .member .ensures) (c .before .if2 .left)) ∙ sym (c .choose-lowest .ensures))
+    choose-numbers _ _ _ _
+    (with-last _ _ _ (Code _) (c .before .before .before .before .before .before .last .given .1) _
+    (not-last-used _ _ _ (c .before .before .before .before .if1 .taken) (is-member _ _ _ _ _ (c .before .before .before .difference .ensures) (c .before .before .member .ensures) (c .before .if2 .left)) ∙ sym (c .choose-lowest .ensures)))
 
 returns-3 : tie.Need-returns-3
-returns-3 c = with-last _ _ _ (Code _) (c .before .before .last .given .1) _ (out-of-range _ _ _ (c .if1 .left))
+returns-3 c = choose-numbers _ _ _ _ (with-last _ _ _ (Code _) (c .before .before .last .given .1) _ (out-of-range _ _ _ (c .if1 .left)))
 
 returns-4 : tie.Need-returns-4
-returns-4 c = with-last _ _ _ NoCode (c .before .enum-told .given .1) _ (sym (c .choose-lowest2 .ensures))
+returns-4 c = choose-numbers _ _ _ _ (with-last _ _ _ NoCode (c .before .enum-told .given .1) _ (sym (c .choose-lowest2 .ensures)))
 
 pub choose-spec : {M : Type 1} → statement M
 choose-spec =

@@ -49,5 +49,5 @@ answer-to-spec =
     (λ c. search needs)
     (λ c κs. search needs)
     returns
-    (λ c. c .arrive2 .ensures ∙ called (c .before .before .before .before .before .before) (c .before .before .event2 .given .1))
-    (λ c. c .clock-end .ensures ∙ called (c .before .before .before .before .before .before) (c .before .before .event3 .given .1)))
+    (λ c. c .arrive2 .ensures .0 ∙ called (c .before .before .before .before .before .before) (c .before .before .event2 .given .1))
+    (λ c. c .clock-end .ensures .0 ∙ called (c .before .before .before .before .before .before) (c .before .before .event3 .given .1)))

@@ -11,8 +11,8 @@ use Rattle.transfer_demo.proofs.arrive.Tie as tie
 returns : tie.Need-returns
 returns c =
     let a = c .before .before .before .before .args in
-    let called : c .arrive .result ≡ arriveOf (a .state) (c .before .number-of .result) (a .place) = c .arrive .ensures in
-    called ∙ ap (λ (n : ℕ). arriveOf (a .state) n (a .place)) (c .before .number-of .ensures ∙ ap snIn (c .before .before .read-frame .ensures))
+    let called : c .arrive .result ≡ arriveOf (a .state) (c .before .number-of .result) (a .place) = c .arrive .ensures .0 in
+    called ∙ ap (λ (n : ℕ). arriveOf (a .state) n (a .place)) (c .before .number-of .ensures ∙ ap snIn (c .before .before .read-frame .ensures .0))
 
 pub arrive-spec : {M : Type 1} → statement M
 arrive-spec = tie.close (tie.spec (λ c κs. search needs) (λ c κs. search needs) (λ c. search needs) (λ c κs. search needs) returns)

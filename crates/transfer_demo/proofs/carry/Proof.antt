@@ -45,7 +45,7 @@ start c = c .before .before .before .before .before .before
 
 -- the place where frames were made, seen from the place after the line that says how many
 abbrev made : tie.After-text2 → tie.After-cut
-made c = c .before .before .before .before .before .before .before
+made c = c .before .before .before .before .before .before .before .before .before .before .before
 
 slice-reshare-prefix-cross : tie.Need-slice-reshare-prefix-cross
 slice-reshare-prefix-cross c =
@@ -73,7 +73,7 @@ slice-aggregate-cross-2 c =
 
 cross-requires : tie.Need-cross-requires
 cross-requires c κs =
-    let f = made (c .before .before) in
+    let f = made (c .before .before .before) in
     let w = called f .cut-message in
     part-few (f .cut .given .0 .0) _ (w .last .1 .1 .1 .1 .0) (w .kept .1 .1 .1 .1 .0) 164 (start (called f) .pre)
 

@@ -12,11 +12,11 @@ use Rattle.transfer_demo.proofs.receive.Statement.{statement}
 use Rattle.transfer_demo.proofs.receive.Tie as tie
 
 abbrev Inv-loop : tie.InvT-loop
-Inv-loop lengths frames received₀ sizes₀ steps state₀ handed₀ i₀ received sizes state handed i =
+Inv-loop lengths frames received₀ sizes₀ good₀ steps state₀ handed₀ i₀ received sizes good state handed i =
     Going (partsOf lengths frames) (length lengths) steps received₀ sizes₀ received sizes state handed i
 
 abbrev μ-loop : tie.MeasureT-loop
-μ-loop lengths frames received₀ sizes₀ steps state₀ handed₀ i₀ received sizes state handed i = steps - i
+μ-loop lengths frames received₀ sizes₀ good₀ steps state₀ handed₀ i₀ received sizes good state handed i = steps - i
 
 -- the loop's head, seen from the place where an event takes place; the function's start, seen from
 -- there
@@ -30,13 +30,13 @@ answer-to-requires : tie.Need-answer-to-requires Inv-loop μ-loop
 answer-to-requires c κs = (sym (c .before .happens .ensures) ∙ c .if1 .taken, omega (arith, start (head c) .pre))
 
 hand-on-requires : tie.Need-hand-on-requires Inv-loop μ-loop
-hand-on-requires c κs = let h = head (c .before .before .before .before) .loop .inv .holds in (h .count-fits, h .total-fits)
+hand-on-requires c κs = let h = head (c .before .before .before .before .before) .loop .inv .holds in (h .count-fits, h .total-fits)
 
 loop-again : tie.Need-loop-again Inv-loop μ-loop
 loop-again c =
     let k = c .before .before .before .before .before in
     let w = k .hand-on in
-    let r = k .before .before .before .before in
+    let r = k .before .before .before .before .before in
     let t = r .before in
     turn-made _ _ _ _ _ _ _ _ _ _ (head t .loop .inv) (t .before .before .before .loop-test .taken) _ (t .before .before .event-at .ensures)
     (r .answer-to .result) _ _ (w .result) (sym (t .before .happens .ensures) ∙ t .if1 .taken) (r .answer-to .ensures)

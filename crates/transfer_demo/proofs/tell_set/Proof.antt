@@ -6,10 +6,10 @@ use Rattle.transfer_demo.proofs.tell_set.Statement.{statement}
 use Rattle.transfer_demo.proofs.tell_set.Tie as tie
 
 abbrev Inv-loop : tie.InvT-loop
-Inv-loop title set n₀ n = n ≤ 64
+Inv-loop title set good₀ n₀ good n = n ≤ 64
 
 abbrev μ-loop : tie.MeasureT-loop
-μ-loop title set n₀ n = 64 - n
+μ-loop title set good₀ n₀ good n = 64 - n
 
 pub tell-set-spec : {M : Type 1} → statement M
 tell-set-spec =

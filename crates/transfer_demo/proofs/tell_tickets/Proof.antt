@@ -6,10 +6,10 @@ use Rattle.transfer_demo.proofs.tell_tickets.Statement.{statement}
 use Rattle.transfer_demo.proofs.tell_tickets.Tie as tie
 
 abbrev Inv-loop : tie.InvT-loop
-Inv-loop tickets count i₀ i = Unit {0}
+Inv-loop good₀ tickets count i₀ good i = Unit {0}
 
 abbrev μ-loop : tie.MeasureT-loop
-μ-loop tickets count i₀ i = count - i
+μ-loop good₀ tickets count i₀ good i = count - i
 
 pub tell-tickets-spec : {M : Type 1} → statement M
 tell-tickets-spec =

@@ -32,7 +32,7 @@ encoded : (c : tie.Then1) → isReceiver (start c .args .state .now) ≡ true
 encoded c = sym (c .before .is-receiver .ensures) ∙ c .if1 .taken
 
 received : (c : tie.After-receive) → c .receive .result ≡ receiveOf (receiverIn (start (tested c) .args .state .now)) (start (tested c) .args .ps)
-received c = c .receive .ensures ∙ ap (λ (r : Receiver). receiveOf r (start (tested c) .args .ps)) (c .before .receiver-in .ensures)
+received c = c .receive .ensures .0 ∙ ap (λ (r : Receiver). receiveOf r (start (tested c) .args .ps)) (c .before .receiver-in .ensures)
 
 returns : tie.Need-returns
 returns c =

@@ -1,14 +1,13 @@
--- `window_bytes::sender_acknowledge` meets its contract: bytes that encode an end get the answer
--- and the next state; to others nothing is written.
+-- `window_bytes::sender_acknowledge` meets its contract: an accepted PR writes the edge; a refusal,
+-- and bytes that encode no end, write nothing.
 -- Assumes nothing.
 use mathlib.Core.Path.{_≡_, refl, ap, _∙_}
 use borrow.Author.Needs.{needs}
-use borrow.Author.Tests.{eq-eqb, ne-eqb}
+use borrow.Author.Tests.{ne-eqb}
 use Rattle.window.specs.declared.sender.Sender.{Sender}
-use Rattle.window.specs.declared.sender.Acknowledged.{Acknowledged}
 use Rattle.window.specs.Sending.{acknowledgeOf}
-use Rattle.refusal.specs.Numbers.{verdictNumber}
-use Rattle.window_bytes.specs.Stored.{senderIn, senderBytes, isSender, acknowledgeAnswer, acknowledgeBytes}
+use Rattle.window_bytes.specs.Stored.{isSender, senderIn, acknowledgeAnswer, acknowledgeBytes}
+use Rattle.window_bytes.proofs.Calls.{acknowledged, not-acknowledged}
 use Rattle.window_bytes.proofs.sender_acknowledge.Statement.{statement}
 use Rattle.window_bytes.proofs.sender_acknowledge.Tie as tie
 
@@ -16,25 +15,22 @@ use Rattle.window_bytes.proofs.sender_acknowledge.Tie as tie
 abbrev start : tie.After-acknowledge → tie.Start
 start c = c .before .before .before .before .before
 
--- the call of `acknowledge`, seen from the return
-abbrev asked : tie.After-number → tie.After-acknowledge
-asked c = c .before .before .before .before .before
-
 answered : (c : tie.After-acknowledge) → c .acknowledge .result ≡ acknowledgeOf (senderIn (start c .args .state .now)) (start c .args .pr)
-answered c = c .acknowledge .ensures ∙ ap (λ (s : Sender). acknowledgeOf s (start c .args .pr)) (c .before .sender-in .ensures)
+answered c = c .acknowledge .ensures .0 ∙ ap (λ (s : Sender). acknowledgeOf s (start c .args .pr)) (c .before .sender-in .ensures)
 
 returns : tie.Need-returns
-unfolding isSender acknowledgeAnswer acknowledgeBytes
 returns c =
-    let e = answered (asked c) in
-    rw (eq-eqb _ _ (asked c .before .before .before .if1 .taken)) (
-      c .number .ensures ∙ ap (λ (r : Acknowledged). verdictNumber (r .verdict)) e,
-      c .before .before .before .put-sender .ensures ∙ ap (λ (r : Acknowledged). senderBytes (r .next)) e,
-    )
+    let a = c .before .before .before in
+    acknowledged _ _ (a .before .before .before .if1 .taken) _ (answered a) (c .before .enum-told .given .1)
 
 returns-2 : tie.Need-returns-2
+returns-2 c =
+    let a = c .before .before .before .before in
+    not-acknowledged _ _ (a .before .before .before .if1 .taken) _ (answered a) _ (c .before .before .verdict .given .1) _ (c .number .ensures)
+
+returns-3 : tie.Need-returns-3
 unfolding isSender acknowledgeAnswer acknowledgeBytes
-returns-2 c = rw (ne-eqb _ _ (c .if1 .left)) (refl, refl)
+returns-3 c = rw (ne-eqb _ _ (c .if1 .left)) (refl, refl)
 
 pub sender-acknowledge-spec : {M : Type 1} → statement M
 sender-acknowledge-spec =
@@ -42,9 +38,13 @@ sender-acknowledge-spec =
     (tie.spec
     (λ c κs. search needs)
     (λ c κs. search needs)
-    (λ c κs. search needs)
+    (λ c. search needs)
+    (λ c. search needs)
+    (λ c. search needs)
     (λ c κs. search needs)
     (λ c. search needs)
     (λ c. search needs)
     returns
-    returns-2)
+    (λ c. search needs)
+    returns-2
+    returns-3)

@@ -11,7 +11,7 @@ use Rattle.window_bytes.proofs.sender_send.Statement.{statement}
 use Rattle.window_bytes.proofs.sender_send.Tie as tie
 
 sent : (c : tie.After-send) → c .send .result ≡ sendOf (senderIn (c .before .before .before .before .before .args .state .now))
-sent c = c .send .ensures ∙ ap sendOf (c .before .sender-in .ensures)
+sent c = c .send .ensures .0 ∙ ap sendOf (c .before .sender-in .ensures)
 
 returns : tie.Need-returns
 returns c =

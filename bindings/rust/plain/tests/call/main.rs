@@ -120,8 +120,7 @@ fn the_cases_make_every_call_and_meet_every_refusal() {
 
 /// Whether the last two digits of a call's answer are a refusal number.
 fn has_refusals(name: &str) -> bool {
-    let counts = name.starts_with("pk_link_") || name.starts_with("pk_packet_");
-    !counts && !name.ends_with("_in_order")
+    !name.starts_with("pk_link_") && !name.starts_with("pk_packet_")
 }
 
 fn refusal_number(printed: &[u8]) -> u8 {

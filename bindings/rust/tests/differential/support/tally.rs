@@ -6,8 +6,7 @@ use std::sync::{Mutex, PoisonError};
 use super::say;
 
 /// One call: the subject that tries it, the numbers it has to answer there, and those it has to
-/// answer where lists of wrong lengths are lent. 0 is done. The answer of an `in_order` is no
-/// refusal: 1 is yes, 0 no.
+/// answer where lists of other lengths are lent. 0 is done.
 struct Row {
     name: &'static str,
     home: &'static str,
@@ -36,30 +35,30 @@ calls! {
     PacketDistance "pk_packet_distance" "window" [0], [];
     PacketNext "pk_packet_next" "window" [0], [];
     SenderFresh "pk_sender_fresh" "window" [0], [14];
-    SenderInOrder "pk_sender_in_order" "window" [0, 1], [0];
+    SenderInOrder "pk_sender_in_order" "window" [0, 14], [14];
     SenderSend "pk_sender_send" "window" [0, 14, 9], [14];
     SenderAcknowledge "pk_sender_acknowledge" "window" [0, 14, 1, 16], [14];
     ReceiverFresh "pk_receiver_fresh" "window" [0], [14];
-    ReceiverInOrder "pk_receiver_in_order" "window" [0, 1], [0];
+    ReceiverInOrder "pk_receiver_in_order" "window" [0, 14], [14];
     ReceiverReceive "pk_receiver_receive" "window" [0, 14, 1, 12, 10, 11], [14];
     ReceiverTell "pk_receiver_tell" "window" [0, 14], [14];
     ResequencerFresh "pk_resequencer_fresh" "resequencer" [0], [14];
-    ResequencerInOrder "pk_resequencer_in_order" "resequencer" [0, 1], [0];
-    ResequencerArrive "pk_resequencer_arrive" "resequencer" [0, 14, 1], [14];
-    ResequencerClockEnd "pk_resequencer_clock_end" "resequencer" [0, 14, 1, 7], [14];
-    FrameWrite "pk_frame_write" "frames" [0, 1, 13, 5], [14];
-    FrameRead "pk_frame_read" "frames" [0, 1, 2, 3, 13], [14];
+    ResequencerInOrder "pk_resequencer_in_order" "resequencer" [0, 14], [14];
+    ResequencerArrive "pk_resequencer_arrive" "resequencer" [0, 14, 1, 5], [0, 14, 1, 5];
+    ResequencerClockEnd "pk_resequencer_clock_end" "resequencer" [0, 14, 1, 5, 7], [0, 14, 1, 5, 7];
+    FrameWrite "pk_frame_write" "frames" [0, 1, 13, 5], [1];
+    FrameRead "pk_frame_read" "frames" [0, 1, 2, 3, 13, 5], [0, 1, 2, 3, 13, 5];
     MessageCut "pk_message_cut" "messages" [0, 1, 4, 5], [];
     MessageJoin "pk_message_join" "messages" [0, 1, 2, 3, 13, 17, 4, 5], [];
     TableEmpty "pk_table_empty" "routes" [0], [14];
     TableCodes "pk_table_codes" "routes" [0], [14];
     TableCount "pk_table_count" "routes" [0], [14];
     TableChoose "pk_table_choose" "choice" [0, 1, 8, 15], [14];
-    TableUpdate "pk_table_update" "routes" [0, 6], [14];
+    TableUpdate "pk_table_update" "routes" [0, 5, 6], [0, 14, 5, 6];
     Choose "pk_choose" "choice" [0, 1, 8, 15], [];
 }
 
-/// The subject that lends lists of wrong lengths.
+/// The subject that lends lists of other lengths.
 const LENGTHS: &str = "lengths";
 const SUBJECTS: usize = 8;
 const NUMBERS: usize = 18;
@@ -142,7 +141,7 @@ impl Tally {
 
 /// The table of all calls and numbers; a number that was never answered is left out.
 fn table(counts: &Counts) -> String {
-    let mut text = String::from("\nanswers by number (0 done; of an in_order: 1 yes, 0 no)\n");
+    let mut text = String::from("\nanswers by number (0 done)\n");
     for (row, counts) in ROWS.iter().zip(counts) {
         write!(text, "{:26}", row.name).unwrap();
         for (number, count) in counts.iter().enumerate().filter(|(_, &count)| count > 0) {
@@ -150,12 +149,8 @@ fn table(counts: &Counts) -> String {
         }
         text.push('\n');
     }
-    let refusals = ROWS
-        .iter()
-        .zip(counts)
-        .filter(|(row, _)| !row.name.ends_with("in_order"));
     let mut sums = [0; NUMBERS];
-    for (_, counts) in refusals {
+    for counts in counts {
         sums.iter_mut()
             .zip(counts)
             .for_each(|(sum, count)| *sum += count);

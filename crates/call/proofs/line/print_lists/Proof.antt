@@ -7,10 +7,10 @@ use Rattle.call.proofs.line.print_lists.Statement.{statement}
 use Rattle.call.proofs.line.print_lists.Tie as tie
 
 abbrev Inv-loop : tie.InvT-loop
-Inv-loop row a b c values k₀ k = 2 ≤ k
+Inv-loop row a b c values ending₀ k₀ ending k = 2 ≤ k
 
 abbrev μ-loop : tie.MeasureT-loop
-μ-loop row a b c values k₀ k = length row - k
+μ-loop row a b c values ending₀ k₀ ending k = length row - k
 
 pub print-lists-spec : {M : Type 1} → statement M
 print-lists-spec =

@@ -10,10 +10,10 @@ use Rattle.call.proofs.print.list.Statement.{statement}
 use Rattle.call.proofs.print.list.Tie as tie
 
 abbrev Inv-loop : tie.InvT-loop
-Inv-loop memory count from out₀ end₀ i₀ most out end i = (i ≤ most) × (end ≡ 2 * i + 1) × (length out ≡ 16385)
+Inv-loop memory count from ending out₀ end₀ i₀ most out end i = (i ≤ most) × (end ≡ 2 * i + 1) × (length out ≡ 16385)
 
 abbrev μ-loop : tie.MeasureT-loop
-μ-loop memory count from out₀ end₀ i₀ most out end i = most - i
+μ-loop memory count from ending out₀ end₀ i₀ most out end i = most - i
 
 loop-holds : tie.Need-loop-holds Inv-loop μ-loop
 loop-holds c = (omega arith, omega arith, length-replicate {A = ℕ} 16385 32)

@@ -16,6 +16,7 @@ use Rattle.message.specs.declared.cutting.Cut.{Cut}
 use Rattle.message.specs.declared.cutting.Cut.the-variants.{Refused as NotCut}
 use Rattle.message.specs.Cutting.{framesOf, cutVerdict, cutBy, cutOf, cutOutput, cutLengths}
 use Rattle.message.proofs.Passed.{passed}
+use Rattle.message.proofs.Numbers.{cut-numbers}
 use Rattle.message.proofs.cutting.cut_message.Statement.{statement}
 use Rattle.message.proofs.cutting.cut_message.Tie as tie
 
@@ -52,12 +53,14 @@ returns c =
     let t = c .before .before .before .before .before .before .before in
     let a = start (t .before .before) .args in
     let w = c .before .before .before .before .put-frames in
-    done (a .form) (a .start) (a .message .now) (a .out .now) (a .lengths .now) _ _ _ (passes t) (w .ensures .0) (w .ensures .1 .0) (w .ensures .1 .1)
+    cut-numbers (a .form) (a .start) (a .message .now) (a .out .now) (a .lengths .now) _ _ _
+    (done (a .form) (a .start) (a .message .now) (a .out .now) (a .lengths .now) _ _ _ (passes t) (w .ensures .0) (w .ensures .1 .0) (w .ensures .1 .1))
 
 returns-2 : tie.Need-returns-2
 returns-2 c =
     let a = start (c .before .before .before) .args in
-    not-done (a .form) (a .start) (a .message .now) (a .out .now) (a .lengths .now) _ (sym (c .before .before .before .check-cut .ensures) ∙ c .before .verdict .given .1)
+    cut-numbers (a .form) (a .start) (a .message .now) (a .out .now) (a .lengths .now) _ _ _
+    (not-done (a .form) (a .start) (a .message .now) (a .out .now) (a .lengths .now) _ (sym (c .before .before .before .check-cut .ensures) ∙ c .before .verdict .given .1))
 
 pub cut-message-spec : {M : Type 1} → statement M
 cut-message-spec =

@@ -65,7 +65,7 @@ returns c =
     let e = l .ensures .0 ∙ sym (size (a .form) (Data (a .packet)) (a .user .now) (a .out .now) (a .at) (a .i) (length (a .lengths .now)) r) in (
       ap (λ (x : ℕ). a .at + x) e,
       (
-        put (a .form) (Data (a .packet)) (a .user .now) (a .out .now) (a .at) (a .i) (length (a .lengths .now)) r (l .result) _ (l .ensures .0) (c .before .before .write-data .ensures .1),
+        put (a .form) (Data (a .packet)) (a .user .now) (a .out .now) (a .at) (a .i) (length (a .lengths .now)) r (l .result) _ (l .ensures .0) (c .before .before .write-data .ensures .1 .0),
         ap (set (a .lengths .now) (a .i)) e,
       ),
     )

@@ -18,6 +18,7 @@ use Rattle.message.specs.Joining.{messageIn, joinVerdict, joinOf, joinOu
 use Rattle.message.specs.JoiningParts.{Joinable}
 use Rattle.message.proofs.Answers.{by-bytes, by-refused, join-done}
 use Rattle.message.proofs.Users.{all-data}
+use Rattle.message.proofs.Numbers.{join-numbers}
 use Rattle.message.proofs.joining.join_frames.Statement.{statement}
 use Rattle.message.proofs.joining.join_frames.Tie as tie
 
@@ -54,6 +55,7 @@ returns c =
     let j = c .before .before .before .before .before .before .before in
     let a = start j .args in
     let e = sym (j .judge .ensures) ∙ c .before .before .before .before .before .judged .given .1 in
+    join-numbers (a .form) (a .lengths .now) (a .frames .now) (a .out .now) _ _
     (sym e, c .before .before .copy-users .ensures ∙ joins (a .form) (a .lengths .now) (a .frames .now) (a .out .now) _ e .1)
 
 returns-2 : tie.Need-returns-2
@@ -61,6 +63,7 @@ returns-2 c =
     let j = c .before .before .before in
     let a = start j .args in
     let e = sym (j .judge .ensures) ∙ c .before .judged2 .given .1 in
+    join-numbers (a .form) (a .lengths .now) (a .frames .now) (a .out .now) _ _
     (sym e, refuses (a .form) (a .lengths .now) (a .frames .now) (a .out .now) _ e)
 
 pub join-frames-spec : {M : Type 1} → statement M

@@ -27,7 +27,7 @@ returns-3 : tie.Need-returns-3
 returns-3 c =
     let a = c .before .before .before .before .before .args in
     let first : getD (a .frame .now) 0 0 / 128 ≡ 1 = omega (arith, c .before .if2 .left, c .before .before .shared-slice-known2 .given 0) in
-    c .read-data .ensures ∙ opens-data (a .form) (a .frame .now) first
+    c .read-data .ensures .0 ∙ opens-data (a .form) (a .frame .now) first
 
 pub read-one-spec : {M : Type 1} → statement M
 read-one-spec =

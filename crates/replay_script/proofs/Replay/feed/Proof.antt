@@ -3,18 +3,20 @@
 -- Assumes nothing.
 use native.Mathlib.Omega.{arith}
 use borrow.Author.Needs.{needs}
-use Rattle.replay_script.proofs.Feeding.{feed-refused, feed-done}
+use Rattle.replay_script.proofs.Feeding.{feed-numbered, feed-refused, feed-done}
 use Rattle.replay_script.proofs.Replay.feed.Statement.{statement}
 use Rattle.replay_script.proofs.Replay.feed.Tie as tie
 
 returns : tie.Need-returns
-returns c = feed-refused _ _ _ (c .if1 .taken)
+returns c = feed-numbered _ _ _ (feed-refused _ _ _ (c .if1 .taken))
 
 run-part-requires : tie.Need-run-part-requires
 run-part-requires c κs = omega arith
 
 returns-2 : tie.Need-returns-2
-returns-2 c = feed-done _ _ _ (c .before .before .before .before .before .if1 .left) (c .before .before .before .run-part .ensures .0) (c .before .before .before .run-part .ensures .1)
+returns-2 c =
+    let p = c .before .before .before in
+    feed-numbered _ _ _ (feed-done _ _ _ (p .before .before .if1 .left) (p .run-part .ensures .0) (p .run-part .ensures .1))
 
 pub feed-spec : {M : Type 1} → statement M
 feed-spec =

@@ -3,7 +3,7 @@
 -- Assumes nothing.
 use mathlib.Core.Path.{sym, _∙_}
 use borrow.Author.Needs.{needs}
-use Rattle.route.proofs.Cases.{update-long, update-cut, update-done}
+use Rattle.route.proofs.Cases.{update-long, update-cut, update-done, update-number}
 use Rattle.route.proofs.Table.update.Statement.{statement}
 use Rattle.route.proofs.Table.update.Tie as tie
 
@@ -24,17 +24,18 @@ abbrev collected : tie.After-lost-between → tie.After-collect-list
 collected c = list-whole c .before
 
 returns : tie.Need-returns
-returns c = c .refuse .ensures ∙ sym (update-long _ _ (c .before .if1 .taken))
+returns c = update-number _ _ _ (c .refuse .ensures ∙ sym (update-long _ _ (c .before .if1 .taken)))
 
 returns-2 : tie.Need-returns-2
 returns-2 c =
-    update-done _ _ _ _ (short (collected c) .if1 .left) (collected c .collect-list .ensures) (list-whole c .if2 .taken)
-    _ (after-settle c .settle .ensures) _ _ (c .lost-between .ensures)
+    update-number _ _ _
+    (update-done _ _ _ _ (short (collected c) .if1 .left) (collected c .collect-list .ensures) (list-whole c .if2 .taken)
+    _ (after-settle c .settle .ensures) _ _ (c .lost-between .ensures))
 
 returns-3 : tie.Need-returns-3
 returns-3 c =
     let l = c .before .before in
-    c .refuse2 .ensures ∙ sym (update-cut _ _ _ _ (short l .if1 .left) (l .collect-list .ensures) (c .before .if2 .left))
+    update-number _ _ _ (c .refuse2 .ensures ∙ sym (update-cut _ _ _ _ (short l .if1 .left) (l .collect-list .ensures) (c .before .if2 .left)))
 
 pub update-spec : {M : Type 1} → statement M
 update-spec =

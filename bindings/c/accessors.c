@@ -1,0 +1,345 @@
+/* Checks every macro of pepperknoll.h, and pk_long_downlink, on answers of the library: that it
+ * gives the right value, that it gives 0 after a refusal, and that it evaluates its argument once.
+ * Prints one line; ends with 1 at the first difference. */
+#include <limits.h>
+#include <stdio.h>
+#include <stdlib.h>
+#include <string.h>
+
+#include "pepperknoll.h"
+
+static unsigned checked, evaluated;
+
+static void check(const char *what, uint64_t got, uint64_t wanted)
+{
+    checked++;
+    if (got == wanted)
+        return;
+    printf("bindings/c/accessors.c: %s is %llu and should be %llu\n", what,
+           (unsigned long long)got, (unsigned long long)wanted);
+    exit(1);
+}
+
+/* An answer, counted each time it is evaluated. */
+static uint32_t once32(uint32_t answer)
+{
+    evaluated++;
+    return answer;
+}
+
+static uint64_t once64(uint64_t answer)
+{
+    evaluated++;
+    return answer;
+}
+
+#define IS(value, wanted) check(#value, value, wanted)
+
+/* The argument is made of two, so that a macro without its brackets is noticed too. */
+#define ONCE(macro, once, answer, wanted)                               \
+    do {                                                                \
+        evaluated = 0;                                                  \
+        check(#macro "(" #answer ")", macro(once(answer) | 0), wanted); \
+        check("how often " #macro " evaluates", evaluated, 1);          \
+    } while (0)
+#define OF32(macro, answer, wanted) ONCE(macro, once32, answer, wanted)
+#define OF64(macro, answer, wanted) ONCE(macro, once64, answer, wanted)
+
+static uint8_t sender[PK_SENDER_BYTES], receiver[PK_RECEIVER_BYTES];
+static uint8_t link_state[PK_RESEQUENCER_BYTES], table[PK_TABLE_BYTES];
+static uint8_t packet[PK_PACKET_BYTES], lost[PK_LOST], frames[400], message[4097];
+static uint16_t tickets[PK_TICKETS];
+static size_t lengths[4];
+
+/* One byte or place less than a constant says. */
+#define LESS(constant) ((constant) - 1)
+
+static void window(void)
+{
+    uint32_t answer;
+
+    OF32(PK_NUMBER, pk_sender_fresh(sender, LESS(PK_SENDER_BYTES)), PK_NOT_IN_ORDER);
+    OF32(PK_NUMBER, pk_sender_fresh(sender, PK_SENDER_BYTES), PK_DONE);
+    IS(pk_sender_in_order(sender, PK_SENDER_BYTES), PK_DONE);
+    sender[0] = 9;
+    sender[1] = 7;
+    answer = pk_sender_send(sender, PK_SENDER_BYTES);
+    OF32(PK_SEND_PS, answer, 7);
+    OF32(PK_NUMBER, answer, PK_DONE);
+    answer = pk_sender_send(sender, PK_SENDER_BYTES);
+    OF32(PK_NUMBER, answer, PK_WINDOW_CLOSED);
+    OF32(PK_SEND_PS, answer, 0);
+    OF32(PK_NUMBER, pk_sender_acknowledge(sender, PK_SENDER_BYTES, 16), PK_OUT_OF_RANGE);
+    sender[1] = 10;
+    OF32(PK_NUMBER, pk_sender_acknowledge(sender, PK_SENDER_BYTES, 11), PK_NEVER_SENT);
+    sender[1] = 16;
+    IS(pk_sender_in_order(sender, PK_SENDER_BYTES), PK_NOT_IN_ORDER);
+}
+
+static void receiving(void)
+{
+    uint32_t answer = pk_receiver_fresh(receiver, LESS(PK_RECEIVER_BYTES));
+    uint8_t ps;
+
+    OF32(PK_NUMBER, answer, PK_NOT_IN_ORDER);
+    OF32(PK_NUMBER, pk_receiver_fresh(receiver, PK_RECEIVER_BYTES), PK_DONE);
+    IS(pk_receiver_in_order(receiver, PK_RECEIVER_BYTES), PK_DONE);
+    answer = pk_receiver_receive(receiver, PK_RECEIVER_BYTES, 1);
+    OF32(PK_NUMBER, answer, PK_FIRST_NOT_ZERO);
+    for (ps = 0; ps < 7; ps++)
+        OF32(PK_RECEIVE_DUE, pk_receiver_receive(receiver, PK_RECEIVER_BYTES, ps), 0);
+    answer = pk_receiver_receive(receiver, PK_RECEIVER_BYTES, 7);
+    OF32(PK_RECEIVE_DUE, answer, 1);
+    answer = pk_receiver_receive(receiver, PK_RECEIVER_BYTES, 7);
+    OF32(PK_NUMBER, answer, PK_OUTSIDE_WINDOW);
+    OF32(PK_RECEIVE_DUE, answer, 0);
+    answer = pk_receiver_receive(receiver, PK_RECEIVER_BYTES, 9);
+    OF32(PK_NUMBER, answer, PK_OUT_OF_SEQUENCE);
+    OF32(PK_TELL_PR, pk_receiver_tell(receiver, PK_RECEIVER_BYTES), 8);
+    receiver[1] = 2;
+    answer = pk_receiver_tell(receiver, PK_RECEIVER_BYTES);
+    OF32(PK_NUMBER, answer, PK_NOT_IN_ORDER);
+    OF32(PK_TELL_PR, answer, 0);
+}
+
+static uint32_t arrive(size_t places, uint8_t sn)
+{
+    return pk_resequencer_arrive(link_state, PK_RESEQUENCER_BYTES, tickets, places, sn, 700);
+}
+
+static uint32_t clock_end(size_t places, uint8_t sn)
+{
+    return pk_resequencer_clock_end(link_state, PK_RESEQUENCER_BYTES, tickets, places, sn);
+}
+
+static void event(uint32_t answer, uint8_t outcome, uint8_t count)
+{
+    OF32(PK_NUMBER, answer, PK_DONE);
+    OF32(PK_RESEQUENCER_OUTCOME, answer, outcome);
+    OF32(PK_RESEQUENCER_COUNT, answer, count);
+}
+
+static void refused(uint32_t answer, uint8_t number)
+{
+    OF32(PK_NUMBER, answer, number);
+    OF32(PK_RESEQUENCER_OUTCOME, answer, 0);
+    OF32(PK_RESEQUENCER_COUNT, answer, 0);
+}
+
+static void resequencer(void)
+{
+    uint32_t answer = pk_resequencer_fresh(link_state, LESS(PK_RESEQUENCER_BYTES));
+
+    OF32(PK_NUMBER, answer, PK_NOT_IN_ORDER);
+    OF32(PK_NUMBER, pk_resequencer_fresh(link_state, PK_RESEQUENCER_BYTES), PK_DONE);
+    IS(pk_resequencer_in_order(link_state, PK_RESEQUENCER_BYTES), PK_DONE);
+    event(arrive(PK_TICKETS, 2), PK_HELD, 0);
+    event(arrive(PK_TICKETS, 2), PK_DUPLICATE, 0);
+    event(arrive(PK_TICKETS, 40), PK_OLD, 0);
+    event(arrive(PK_TICKETS, 1), PK_HELD, 0);
+    refused(clock_end(LESS(PK_TICKETS), 9), PK_OUTPUT_TOO_SHORT);
+    refused(clock_end(PK_TICKETS, 9), PK_NO_CLOCK);
+    refused(arrive(LESS(PK_TICKETS), 0), PK_OUTPUT_TOO_SHORT);
+    refused(arrive(PK_TICKETS, 64), PK_OUT_OF_RANGE);
+    event(arrive(PK_TICKETS, 0), PK_HANDED_ON, 3);
+    event(arrive(PK_TICKETS, 6), PK_HELD, 0);
+    event(clock_end(PK_TICKETS, 6), PK_HANDED_ON, 1);
+    link_state[0] = 64;
+    refused(arrive(PK_TICKETS, 0), PK_NOT_IN_ORDER);
+}
+
+static uint64_t write_frame(uint8_t form, size_t user)
+{
+    return pk_frame_write(form, packet, PK_PACKET_BYTES, message, user, frames, sizeof frames);
+}
+
+/* A form by its largest packet: one of that size is written, one more byte is too long. */
+static void largest(uint8_t form, size_t size, size_t frame)
+{
+    memset(packet, 0, sizeof packet);
+    packet[0] = PK_DATA;
+    OF64(PK_WRITE_BYTES, write_frame(form, size - 3), frame);
+    OF64(PK_NUMBER, write_frame(form, size - 2), PK_PACKET_TOO_LONG);
+    OF64(PK_WRITE_BYTES, write_frame(form, size - 2), 0);
+}
+
+static void forms(void)
+{
+    static const unsigned none[] = { 0, 17, 18, 255, 256, 257, 65537, UINT_MAX - 1, UINT_MAX };
+    unsigned segments;
+    size_t i;
+
+    largest(PK_SHORT_UPLINK, 28, 28);
+    largest(PK_LONG_UPLINK, 152, 160);
+    for (segments = 1; segments <= 16; segments++) {
+        IS(pk_long_downlink(segments), segments);
+        largest(pk_long_downlink(segments), 10 * segments, 10 * segments);
+    }
+    for (i = 0; i < sizeof none / sizeof none[0]; i++) {
+        IS(pk_long_downlink(none[i]), PK_NO_FORM);
+        OF64(PK_NUMBER, write_frame(pk_long_downlink(none[i]), 0), PK_OUT_OF_RANGE);
+    }
+}
+
+/* Reads what was just written, so many bytes, with so many of user data. */
+static void read_back(size_t frame, uint8_t kind, size_t start, size_t user)
+{
+    uint64_t answer;
+
+    memset(packet, 0xEE, sizeof packet);
+    answer = pk_frame_read(PK_LONG_UPLINK, frames, frame, packet, LESS(PK_PACKET_BYTES));
+    OF64(PK_NUMBER, answer, PK_OUTPUT_TOO_SHORT);
+    OF64(PK_READ_USER_START, answer, 0);
+    OF64(PK_READ_USER_BYTES, answer, 0);
+    answer = pk_frame_read(PK_LONG_UPLINK, frames, frame, packet, PK_PACKET_BYTES);
+    OF64(PK_NUMBER, answer, PK_DONE);
+    OF64(PK_READ_USER_START, answer, start);
+    OF64(PK_READ_USER_BYTES, answer, user);
+    IS(packet[0], kind);
+}
+
+static void kinds(void)
+{
+    static const uint8_t kind[] = { PK_DATA, PK_CLEAR_REQUEST, PK_CLEAR_CONFIRMATION };
+    static const size_t start[] = { 3, 7, 4 }, user[] = { 140, 20, 0 }, frame[] = { 150, 30, 10 };
+    size_t i;
+
+    for (i = 0; i < 3; i++) {
+        memset(packet, 0, sizeof packet);
+        packet[0] = kind[i];
+        OF64(PK_WRITE_BYTES, write_frame(PK_LONG_UPLINK, user[i]), frame[i]);
+        read_back(frame[i], kind[i], start[i], user[i]);
+    }
+    packet[9] = 1; /* a CLEAR CONFIRMATION has no use for it */
+    OF64(PK_NUMBER, write_frame(PK_LONG_UPLINK, 0), PK_OUT_OF_RANGE);
+    OF64(PK_NUMBER, pk_frame_read(PK_LONG_UPLINK, frames, 9, packet, PK_PACKET_BYTES),
+         PK_MALFORMED);
+    frames[9] = 1;
+    OF64(PK_NUMBER, pk_frame_read(PK_LONG_UPLINK, frames, 10, packet, PK_PACKET_BYTES),
+         PK_FORMAT_ERROR);
+}
+
+static uint64_t cut(size_t bytes, size_t places)
+{
+    return pk_message_cut(PK_LONG_UPLINK, 63, 15, 2, 4, message, bytes, frames, sizeof frames,
+                          lengths, places);
+}
+
+static uint64_t join(size_t count, size_t bytes)
+{
+    return pk_message_join(PK_LONG_UPLINK, lengths, count, frames, bytes, message, sizeof message);
+}
+
+static void messages(void)
+{
+    uint64_t answer = cut(300, 4);
+
+    OF64(PK_NUMBER, answer, PK_DONE);
+    OF64(PK_CUT_FRAMES, answer, 3);
+    OF64(PK_CUT_BYTES, answer, 330);
+    answer = join(3, 330);
+    OF64(PK_NUMBER, answer, PK_DONE);
+    OF64(PK_JOIN_BYTES, answer, 300);
+    OF64(PK_NUMBER, join(2, 320), PK_MALFORMED);
+    frames[160] ^= 1; /* SN of the second frame */
+    answer = join(3, 330);
+    OF64(PK_NUMBER, answer, PK_RUN_BROKEN);
+    OF64(PK_JOIN_BYTES, answer, 0);
+    answer = cut(300, 2);
+    OF64(PK_NUMBER, answer, PK_OUTPUT_TOO_SHORT);
+    OF64(PK_CUT_FRAMES, answer, 0);
+    OF64(PK_CUT_BYTES, answer, 0);
+    OF64(PK_NUMBER, cut(4097, 4), PK_MESSAGE_TOO_LONG);
+}
+
+static uint32_t update(const uint8_t *list, size_t bytes, size_t places)
+{
+    return pk_table_update(table, PK_TABLE_BYTES, list, bytes, lost, places);
+}
+
+static void routes(void)
+{
+    static const uint8_t adds[] = { 0x59, 0x12, 0x40, 0xF8, 0x40 }, deletes[] = { 0x50, 0x12 };
+    uint32_t answer = pk_table_empty(table, LESS(PK_TABLE_BYTES));
+
+    OF32(PK_NUMBER, answer, PK_NOT_IN_ORDER);
+    OF32(PK_NUMBER, pk_table_empty(table, PK_TABLE_BYTES), PK_DONE);
+    OF32(PK_UPDATE_LOST, update(adds, sizeof adds, PK_LOST), 0);
+    OF32(PK_CODES_SET, pk_table_codes(table, PK_TABLE_BYTES, 0x40), 0x8020);
+    OF32(PK_COUNT_CODES, pk_table_count(table, PK_TABLE_BYTES, 0x40), 2);
+    OF32(PK_CODES_SET, pk_table_codes(table, 0, 0x40), 0);
+    OF32(PK_COUNT_CODES, pk_table_count(table, 0, 0x40), 0);
+    answer = update(deletes, sizeof deletes, LESS(PK_LOST));
+    OF32(PK_NUMBER, answer, PK_OUTPUT_TOO_SHORT);
+    OF32(PK_UPDATE_LOST, answer, 0);
+    OF32(PK_NUMBER, update(deletes, 1, PK_LOST), PK_ROUTE_LIST_MALFORMED);
+    OF32(PK_UPDATE_LOST, update(deletes, sizeof deletes, PK_LOST), 1);
+    IS(lost[0], 0x12);
+    OF32(PK_CHOOSE_CODE, pk_table_choose(table, PK_TABLE_BYTES, 0x40, 15, 0), 15);
+    answer = pk_table_choose(table, PK_TABLE_BYTES, 0x12, PK_NO_CODE, 0);
+    OF32(PK_NUMBER, answer, PK_NO_INTERROGATOR);
+    OF32(PK_CHOOSE_CODE, answer, 0);
+    IS(answer, PK_NO_INTERROGATOR);
+}
+
+static void choice(void)
+{
+    OF32(PK_CHOOSE_CODE, pk_choose(0x8020, PK_NO_CODE, 0), 5);
+    OF32(PK_CHOOSE_CODE, pk_choose(0x8020, PK_NO_CODE, 0x20), 15);
+    OF32(PK_NUMBER, pk_choose(0x8020, PK_NO_CODE - 1, 0), PK_OUT_OF_RANGE);
+    OF32(PK_NUMBER, pk_choose(0x8020, PK_NO_CODE, 0x8020), PK_ALL_FAILED);
+    OF32(PK_CHOOSE_CODE, pk_choose(0x8020, PK_NO_CODE, 0x8020), 0);
+    IS(pk_choose(0, PK_NO_CODE, 0), PK_NO_INTERROGATOR);
+    /* the codes with which such a call is cleared, where CC and DC stand in a CLEAR REQUEST */
+    memset(packet, 0, sizeof packet);
+    packet[0] = PK_CLEAR_REQUEST;
+    packet[6] = PK_NO_INTERROGATOR_CAUSE;
+    packet[7] = PK_NO_INTERROGATOR_DIAGNOSTIC;
+    OF64(PK_WRITE_BYTES, write_frame(PK_LONG_UPLINK, 0), 10);
+    IS(frames[4], 0x8D);
+    IS(frames[5], 0xA2);
+}
+
+/* The numbers that the header's text names in words. */
+static void constants(void)
+{
+    static const unsigned refusals[] = {
+        PK_DONE, PK_OUT_OF_RANGE, PK_MALFORMED, PK_FORMAT_ERROR, PK_MESSAGE_TOO_LONG,
+        PK_OUTPUT_TOO_SHORT, PK_ROUTE_LIST_MALFORMED, PK_NO_CLOCK, PK_NO_INTERROGATOR,
+        PK_WINDOW_CLOSED, PK_OUTSIDE_WINDOW, PK_OUT_OF_SEQUENCE, PK_FIRST_NOT_ZERO,
+        PK_PACKET_TOO_LONG, PK_NOT_IN_ORDER, PK_ALL_FAILED, PK_NEVER_SENT, PK_RUN_BROKEN,
+    };
+    unsigned number;
+
+    for (number = 0; number < sizeof refusals / sizeof refusals[0]; number++)
+        check("a refusal's number", refusals[number], number);
+    IS(number, 18);
+    IS(PK_SENDER_BYTES, 2);
+    IS(PK_RECEIVER_BYTES, 3);
+    IS(PK_RESEQUENCER_BYTES, 146);
+    IS(PK_TICKETS, 32);
+    IS(PK_PACKET_BYTES, 10);
+    IS(PK_TABLE_BYTES, 512);
+    IS(PK_LOST, 256);
+    IS(PK_SHORT_UPLINK, 0);
+    IS(PK_LONG_UPLINK, 17);
+    IS(PK_NO_FORM, 255);
+    IS(PK_NO_CODE, 65535);
+    IS(PK_NO_INTERROGATOR_CAUSE, 141);
+    IS(PK_NO_INTERROGATOR_DIAGNOSTIC, 162);
+}
+
+int main(void)
+{
+    constants();
+    window();
+    receiving();
+    resequencer();
+    forms();
+    kinds();
+    messages();
+    routes();
+    choice();
+    printf("bindings/c/accessors.c: %u values of the header's macros are right\n", checked);
+    return 0;
+}

@@ -1,0 +1,47 @@
+-- Demand 2 of the calls on lent bytes, `write` and `read` of `frame_bytes`: "A frame written is
+-- read back to the same fields, and a frame read is written back to the same bytes." A form is a
+-- number, a packet is ten bytes, and what a call did is read off the number that it returns and the
+-- lent bytes. proofs/Bytes.antt proves it (`read-back-of-bytes`).
+-- Assumes nothing.
+use mathlib.Core.Path.{_≡_}
+use mathlib.Core.List.{List}
+use Prim.Native.Nat.{ℕ, _*_, _/_, _%_, _≤_}
+use lib.ListN.{length, take, drop}
+use Rattle.lists.specs.Lists.{over}
+use Rattle.frame_fields.specs.Rows.{AreBytes}
+use Rattle.frame_bytes.specs.Stored.{writeAnswer, writeBytes, readAnswer, readBytes}
+
+-- the frame that `write` left at the front of the lent output: its length is in the bits of the
+-- answer from 8 up
+abbrev pub frameWritten : ℕ → List ℕ → List ℕ → List ℕ → List ℕ
+frameWritten form packet user out = take (writeAnswer form packet (length user) (length out) / 256) (writeBytes form packet user out)
+
+-- the user data that an answer of `read` names: the index is in bits 8 to 15, the length in the
+-- bits from 16 up
+abbrev pub userNamed : ℕ → List ℕ → List ℕ
+userNamed answer frame = take (answer / 65536) (drop (answer / 256 % 256) frame)
+
+-- ten bytes `packet` were written with this user data; the frame is then read into `places`
+pub record BytesRead (form : ℕ) (packet user out places : List ℕ) : Type 0 where
+  -- reading is done
+  pub done : readAnswer form (frameWritten form packet user out) (length places) % 256 ≡ 0
+  -- it gives the same ten bytes, and places past them keep what they held
+  pub packet-back : readBytes form (frameWritten form packet user out) places ≡ over packet places
+  -- it names the same user data
+  pub user-back : userNamed (readAnswer form (frameWritten form packet user out) (length places)) (frameWritten form packet user out) ≡ user
+
+-- a frame was read into `places`; the ten bytes and the user data are then written to `out`
+pub record BytesWritten (form : ℕ) (frame places out : List ℕ) : Type 0 where
+  -- writing is done, with the length of the frame
+  pub done : writeAnswer form (take 10 (readBytes form frame places)) (length (userNamed (readAnswer form frame (length places)) frame)) (length out)
+      ≡ 256 * length frame
+  -- the output holds the same frame, and the bytes beyond it are unchanged
+  pub bytes : writeBytes form (take 10 (readBytes form frame places)) (userNamed (readAnswer form frame (length places)) frame) out ≡ over frame out
+
+-- every frame that `write` has written, if there are ten places to read it into; and every frame
+-- that `read` accepts, if the output has room for it
+pub record ReadBackOfBytes : Type 0 where
+  pub written-is-read : (form : ℕ) (packet user out places : List ℕ) → writeAnswer form packet (length user) (length out) % 256 ≡ 0
+      → 10 ≤ length places → BytesRead form packet user out places
+  pub read-is-written : (form : ℕ) (frame places out : List ℕ) → AreBytes frame → readAnswer form frame (length places) % 256 ≡ 0
+      → length frame ≤ length out → BytesWritten form frame places out
