@@ -358,6 +358,7 @@ impl Numbers {
     // the caller, who keeps the tickets, tests this.
     pub fn arrive(self, fits: bool, sn: LinkNumber) -> Step
         ensures { λ r. ⌜ r ≡ arriveStep fits self (sn .0) ⌝ }
+        ensures number { λ r. ⌜ outcomeNumber (r .outcome) ≡ verdictNumber (check fits NotInOrder (arriveVerdict (bare self) (sn .0))) ⌝ }
     {
         let verdict = self.check_arrive(fits, sn);
         match verdict {
@@ -401,6 +402,7 @@ impl Numbers {
     // The step of a clock end of `sn`. `fits` as for `arrive`.
     pub fn clock_end(self, fits: bool, sn: LinkNumber) -> Step
         ensures { λ r. ⌜ r ≡ clockEndStep fits self (sn .0) ⌝ }
+        ensures number { λ r. ⌜ outcomeNumber (r .outcome) ≡ verdictNumber (check fits NotInOrder (clockEndVerdict (bare self) (sn .0))) ⌝ }
     {
         let verdict = self.check_clock_end(fits, sn);
         match verdict {

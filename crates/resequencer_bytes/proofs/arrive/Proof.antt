@@ -45,12 +45,12 @@ answer-requires c κs =
     let z = sized t in
     let a = start z .args in
     let m = n .before .numbers-in .ensures in
-    let w = arrival-tells (stateIn (a .state .now)) _ (t .tickets-in-order .ensures) _ m (a .sn) _ (n .arrive .ensures) in
+    let w = arrival-tells (stateIn (a .state .now)) _ (t .tickets-in-order .ensures) _ m (a .sn) _ (n .arrive .ensures .0) in
     record {
       size = z .before .if1 .left;
       places = lent z;
       numbers-are = m;
-      fits = subst (λ (s : Step). StepFits (n .before .numbers-in .result .nesn .0) s 1 (a .sn) (a .ticket)) (sym (n .arrive .ensures)) (arrive-fits _ _ (a .sn) (a .ticket));
+      fits = subst (λ (s : Step). StepFits (n .before .numbers-in .result .nesn .0) s 1 (a .sn) (a .ticket)) (sym (n .arrive .ensures .0)) (arrive-fits _ _ (a .sn) (a .ticket));
       order = w .0;
       stays = λ h k. w .1 h k ∙ sym m;
     }
@@ -63,7 +63,7 @@ returns-3 c =
     let z = sized t in
     let a = start z .args in
     arrive-done (a .state .now) (a .tickets .now) (a .sn) (z .before .if1 .left) (z .if2 .left) _ _ _ _ (w .answer .kept .1 .0 ∙ lent z) (a .ticket)
-    (arrive-told (stateIn (a .state .now)) _ _ (a .sn) (a .ticket) _ (n .before .numbers-in .ensures) _ (t .tickets-in-order .ensures) (n .arrive .ensures) refl)
+    (arrive-told (stateIn (a .state .now)) _ _ (a .sn) (a .ticket) _ (n .before .numbers-in .ensures) _ (t .tickets-in-order .ensures) (n .arrive .ensures .0) refl)
     (w .answer .ensures)
 
 pub arrive-spec : {M : Type 1} → statement M

@@ -45,12 +45,12 @@ answer-requires c κs =
     let z = sized t in
     let a = start z .args in
     let m = n .before .numbers-in .ensures in
-    let w = clock-tells (stateIn (a .state .now)) _ (t .tickets-in-order .ensures) _ m (a .sn) _ (n .clock-end .ensures) in
+    let w = clock-tells (stateIn (a .state .now)) _ (t .tickets-in-order .ensures) _ m (a .sn) _ (n .clock-end .ensures .0) in
     record {
       size = z .before .if1 .left;
       places = lent z;
       numbers-are = m;
-      fits = subst (λ (s : Step). StepFits (n .before .numbers-in .result .nesn .0) s 0 (a .sn) 0) (sym (n .clock-end .ensures)) (end-fits _ _ (a .sn));
+      fits = subst (λ (s : Step). StepFits (n .before .numbers-in .result .nesn .0) s 0 (a .sn) 0) (sym (n .clock-end .ensures .0)) (end-fits _ _ (a .sn));
       order = w .0;
       stays = λ h k. w .1 h k ∙ sym m;
     }
@@ -63,7 +63,7 @@ returns-3 c =
     let z = sized t in
     let a = start z .args in
     end-done (a .state .now) (a .tickets .now) (a .sn) (z .before .if1 .left) (z .if2 .left) _ _ _ _ (w .answer .kept .1 .0 ∙ lent z)
-    (end-told (stateIn (a .state .now)) _ _ (a .sn) 0 _ (n .before .numbers-in .ensures) _ (t .tickets-in-order .ensures) (n .clock-end .ensures) refl)
+    (end-told (stateIn (a .state .now)) _ _ (a .sn) 0 _ (n .before .numbers-in .ensures) _ (t .tickets-in-order .ensures) (n .clock-end .ensures .0) refl)
     (w .answer .ensures)
 
 pub clock-end-spec : {M : Type 1} → statement M
