@@ -93,13 +93,14 @@ module _ (b : List ℕ) (count n : ℕ) where
   end-short h = ap (λ (v : Verdict). andThen v (clockEndVerdict s n)) (arrive-short h)
 
   module _ (l : length b ≡ 146) where
-    -- enough places: the checks are those of the resequencer
-    arrive-roomy : 32 ≤ count → arriveVerdict s n ≡ arriveChecks b count n
+    -- enough places: the checks are those of the resequencer. For the calls, and for
+    -- `resequencer_claims`
+    pub arrive-roomy : 32 ≤ count → arriveVerdict s n ≡ arriveChecks b count n
     unfolding arriveChecks
     arrive-roomy h =
         sym (ap₂ (λ (x y : Bool). check x NotInOrder (andThen (arriveVerdict s n) (check y OutputTooShort Done))) (eq-eqb (length b) 146 l) (le-leb 32 count h) ∙ then-nothing (arriveVerdict s n))
 
-    end-roomy : 32 ≤ count → clockEndVerdict s n ≡ clockEndChecks b count n
+    pub end-roomy : 32 ≤ count → clockEndVerdict s n ≡ clockEndChecks b count n
     unfolding clockEndChecks arriveVerdict clockEndVerdict
     end-roomy h =
         sym (ap (λ (v : Verdict). andThen v (clockEndVerdict s n)) (sym (arrive-roomy h)) ∙ same-tests (inOrder s) (inField 64 n) (hasClock s n))

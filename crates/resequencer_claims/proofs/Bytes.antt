@@ -10,28 +10,28 @@ use native.Mathlib.Omega.{arith}
 use lib.Dec.{lit<}
 use lib.ListN.{length, take, drop, length-append}
 use lib.Seq.{take-append-le}
-use borrow.Author.Tests.{eq-eqb, le-leb}
+use borrow.Author.Tests.{eq-eqb}
 use Rattle.refusal.specs.declared.Refusal.{Refusal}
-use Rattle.refusal.specs.declared.Refusal.the-variants.{OutOfRange, NoClock, OutputTooShort, NotInOrder}
 use Rattle.refusal.specs.declared.Verdict.{Verdict}
 use Rattle.refusal.specs.declared.Verdict.the-variants.{Done, Refused as RefusedVerdict}
-use Rattle.refusal.specs.Numbers.{numberOf, check, andThen}
+use Rattle.refusal.specs.Numbers.{numberOf}
 use Rattle.refusal.proofs.Numbers.{number-range}
 use Rattle.little.specs.Little.{littleBytes, listBytes}
 use Rattle.little.proofs.Little.{length-bytes, length-listBytes}
 use Rattle.sequence.specs.declared.LinkNumber.{LinkNumber}
-use Rattle.sequence.specs.Numbers.{link, inField}
+use Rattle.sequence.specs.Numbers.{link}
 use Rattle.resequencer.specs.declared.Resequencer.{Resequencer}
 use Rattle.resequencer.specs.declared.Outcome.{Outcome}
 use Rattle.resequencer.specs.declared.Outcome.the-variants.{Held, HandedOn, Old, Duplicate, Refused}
 use Rattle.resequencer.specs.declared.Answer.{Answer}
-use Rattle.resequencer.specs.State.{freshState, hasClock, ticketOf, ahead, numberAt, inOrder}
+use Rattle.resequencer.specs.State.{freshState, ticketOf, ahead, numberAt}
 use Rattle.resequencer.specs.Events.{outcomeNumber, plain, handed, arriveVerdict, arriveOf, clockEndVerdict, clockEndOf}
 use Rattle.resequencer.proofs.Order.{number-lt, number-ahead}
 use Rattle.resequencer.proofs.Cases.{arrive-refused, end-refused}
-use Rattle.resequencer_bytes.specs.Stored.{isState, stateIn, stateBytes, outcomeKind, packedAnswer, arriveChecks, clockEndChecks, answerBy, bytesBy, ticketsBy, freshBytes}
+use Rattle.resequencer_bytes.specs.Stored.{stateIn, stateBytes, outcomeKind, packedAnswer, arriveChecks, clockEndChecks, answerBy, bytesBy, ticketsBy, freshBytes}
 use Rattle.resequencer_bytes.specs.Claims.{FitsTypes}
 use Rattle.resequencer_bytes.proofs.Claims.{round-trips}
+use Rattle.resequencer_bytes.proofs.Checking.{arrive-roomy, end-roomy}
 use Rattle.resequencer_claims.specs.Calls.{Call, arrival, clockEnd as endOfClock, answerTo}
 use Rattle.resequencer_claims.specs.Events.{Event, packet, stray, clockEnd, callOf, answer, handedOn, nothing, more}
 use Rattle.resequencer_claims.specs.Demand3.{AllowedCall, Allowed, AllowedList}
@@ -115,37 +115,18 @@ state-length s f =
       f .count,
     )
 
-then-none : (v : Verdict) → andThen v Done ≡ v
-then-none Done = refl
-then-none (RefusedVerdict why) = refl
-
--- the checks of an arrival are the first ones of a clock end
-arrival-first : (s : Resequencer) (n : ℕ) → andThen (arriveVerdict s n) (clockEndVerdict s n) ≡ clockEndVerdict s n
-unfolding arriveVerdict clockEndVerdict
-arrival-first s n = go (inOrder s) (inField 64 n) (hasClock s n)
-  where
-    go : (a b c : Bool) → andThen (check a NotInOrder (check b OutOfRange Done)) (check a NotInOrder (check b OutOfRange (check c NoClock Done)))
-        ≡ check a NotInOrder (check b OutOfRange (check c NoClock Done))
-    go true true c = refl
-    go true false c = refl
-    go false b c = refl
-
 module _ (s : Resequencer) (out : List ℕ) (f : FitsTypes s) (long : 32 ≤ length out) where
   -- the bytes are those of s, and the places are enough, so only the checks by value are left
   read-back : stateIn (stateBytes s) ≡ s
   read-back = round-trips .read-back s f
 
   arrival-checks : (n : ℕ) → arriveChecks (stateBytes s) (length out) n ≡ arriveVerdict s n
-  unfolding arriveChecks
   arrival-checks n =
-      let a : isState (stateBytes s) ≡ true = eq-eqb (length (stateBytes s)) 146 (state-length s f) in
-      ap₂ (λ (x y : Bool). check x NotInOrder (andThen (arriveVerdict (stateIn (stateBytes s)) n) (check y OutputTooShort Done))) a (le-leb 32 (length out) long)
-      ∙ then-none (arriveVerdict (stateIn (stateBytes s)) n) ∙ ap (λ (x : Resequencer). arriveVerdict x n) read-back
+      sym (arrive-roomy (stateBytes s) (length out) n (state-length s f) long) ∙ ap (λ (x : Resequencer). arriveVerdict x n) read-back
 
   clock-checks : (n : ℕ) → clockEndChecks (stateBytes s) (length out) n ≡ clockEndVerdict s n
-  unfolding clockEndChecks
   clock-checks n =
-      ap₂ (λ (v : Verdict) (x : Resequencer). andThen v (clockEndVerdict x n)) (arrival-checks n) read-back ∙ arrival-first s n
+      sym (end-roomy (stateBytes s) (length out) n (state-length s f) long) ∙ ap (λ (x : Resequencer). clockEndVerdict x n) read-back
 
   arrival-tells : (n ticket : ℕ) (v : Verdict) → arriveVerdict s n ≡ v → Tells v (arriveOf s n ticket) (stateBytes s) out
   arrival-tells n ticket Done e = done-tells (arriveOf s n ticket) (stateBytes s) out (few s (arrival n ticket) .room)
