@@ -5,9 +5,9 @@
 //
 // A proved program has no exit status. So the last thing that it does is to write a mark to
 // descriptor 3, from which tools/run-proved makes a status: `done` if the whole message was read
-// and all was printed, `input` if a read failed, `output` if a write failed. Where descriptor 3 is
-// not open, nothing is written to it. `good` is true as long as no read and no write has failed;
-// after that nothing is read or printed.
+// and all was printed, `refused` if besides the message was too long, `input` if a read failed,
+// `output` if a write failed. Where descriptor 3 is not open, nothing is written to it. `good` is
+// true as long as no read and no write has failed; after that nothing is read or printed.
 ghost use mathlib.Core.Path.{_≡_};
 ghost use mathlib.Core.Bool.{true};
 ghost use mathlib.Core.List.{List, [], map};
@@ -112,7 +112,16 @@ fn carry(message: &[u8], frames: &mut [u8], lengths: &mut [usize], good: &mut bo
             text(b"refused ", good);
             number(why.number() as usize, good);
             text(b": a message has 4,096 bytes at most\n", good);
+            refuse(good);
         }
+    }
+}
+
+// Ends a run whose message was refused, with the mark that says so.
+fn refuse(good: &mut bool) {
+    if *good {
+        mark(b"refused\n");
+        *good = false;
     }
 }
 
