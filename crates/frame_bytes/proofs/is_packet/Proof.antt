@@ -1,8 +1,7 @@
 -- `frame_bytes::is_packet` meets its contract: each kind's tests are those of `flagsFit` and
 -- `unusedZero`.
 -- Assumes nothing.
-use mathlib.Core.Path.{_≡_, sym, ap, _∙_}
-use mathlib.Core.Bool.{Bool, _&&_, and-true}
+use mathlib.Core.Bool.{_&&_, and-true}
 use lib.Dec.{leb}
 use lib.ListN.{getD}
 use borrow.Author.Needs.{needs}
