@@ -150,18 +150,9 @@ fn safe_packet(packet: Packet) -> pepperknoll::Packet {
     }
 }
 
-/// How many places for the packet of a read are lent: mostly 10, at times more, seldom fewer.
-fn some_places(random: &mut Random) -> usize {
-    match random.below(32) {
-        0 => random.below(PACKET_BYTES),
-        1..=3 => PACKET_BYTES + 1 + random.below(20),
-        _ => PACKET_BYTES,
-    }
-}
-
 /// Reads a frame with all three; gives the packet that the frame holds.
 fn check_read(trial: &mut Trial, bed: &mut Bed, form: u8, frame: &[u8]) -> Option<Packet> {
-    let places = some_places(&mut trial.random);
+    let places = trial.random.places(PACKET_BYTES);
     let what = || format!("form {form}, {places} places, frame {frame:x?}");
     let mut packet = vec![DIRT; places];
     bed.frame.lend(frame);

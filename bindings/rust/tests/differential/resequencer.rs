@@ -69,7 +69,7 @@ impl States {
 
     /// One event on all three, with as many places for tickets as it takes, too few or more.
     fn event(&mut self, trial: &mut Trial, event: Event) -> Result<Answer, plain::Refusal> {
-        let places = some_places(&mut trial.random);
+        let places = trial.random.places(PLACES);
         self.event_into(trial, event, places)
     }
 
@@ -158,17 +158,6 @@ fn plain_outcome(outcome: &pepperknoll::Outcome) -> Outcome {
         pepperknoll::Outcome::HandedOn(_) => Outcome::HandedOn,
         pepperknoll::Outcome::Old => Outcome::Old,
         pepperknoll::Outcome::Duplicate => Outcome::Duplicate,
-    }
-}
-
-/// How many places for tickets are lent: mostly 32, at times more, seldom fewer.
-fn some_places(random: &mut Random) -> usize {
-    match random.below(64) {
-        0 => random.below(PLACES),
-        1 => PLACES - 1,
-        2..=4 => PLACES + 1,
-        5..=7 => PLACES + random.below(70),
-        _ => PLACES,
     }
 }
 

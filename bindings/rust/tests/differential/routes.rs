@@ -53,7 +53,7 @@ impl Tables {
 
     /// One update of all three, with as many places for the report as it takes, too few or more.
     fn update(&mut self, trial: &mut Trial, list: &[u8]) {
-        let count = some_places(&mut trial.random);
+        let count = trial.random.places(LOST);
         let what = || format!("list {list:x?}, {count} places");
         let mut places = vec![trial.random.byte(); count];
         self.lost.lend(&places);
@@ -100,17 +100,6 @@ impl Tables {
         assert_eq!(self.safe.count(address), self.plain.count(address));
         let bytes = self.plain.to_bytes();
         self.lent.assert_holds(&bytes, || "look".into());
-    }
-}
-
-/// How many places for the report are lent: mostly 256, at times more, seldom fewer.
-fn some_places(random: &mut Random) -> usize {
-    match random.below(64) {
-        0 => random.below(LOST),
-        1 => LOST - 1,
-        2..=4 => LOST + 1,
-        5..=7 => LOST + random.below(300),
-        _ => LOST,
     }
 }
 

@@ -44,6 +44,18 @@ impl Random {
         bytes
     }
 
+    /// How many places are lent for a result that needs so many: mostly those, at times more,
+    /// seldom fewer.
+    pub fn places(&mut self, needed: usize) -> usize {
+        match self.below(64) {
+            0 => self.below(needed),
+            1 => needed - 1,
+            2..=4 => needed + 1,
+            5..=7 => needed + self.below(300),
+            _ => needed,
+        }
+    }
+
     /// A value for a field of so many bits: mostly in it, often at its ends, seldom past it.
     pub fn field(&mut self, bits: u32) -> u8 {
         let highest = ((1u16 << bits) - 1) as u8;
