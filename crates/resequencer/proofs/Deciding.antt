@@ -166,16 +166,16 @@ module _ (s : Resequencer) where
   e = ahead s (s .hsnr .0)
 
   held-at : (d : ℕ) → d < 64 → member h d ≡ isHeld s (numberAt s d)
-  held-at d l = member-rotate 64 (lit< tt) (s .held) (s .nesn .0) d l
+  held-at d l = member-rotate 64 (s .held) (s .nesn .0) d l
 
   clock-at : (d : ℕ) → d < 64 → member c d ≡ hasClock s (numberAt s d)
-  clock-at d l = member-rotate 64 (lit< tt) (s .clocks) (s .nesn .0) d l
+  clock-at d l = member-rotate 64 (s .clocks) (s .nesn .0) d l
 
   h-lt : h < 2 ^ 64
-  h-lt = rotate-lt 64 (lit< tt) (s .held) (s .nesn .0)
+  h-lt = rotate-lt 64 (s .held) (s .nesn .0)
 
   c-lt : c < 2 ^ 64
-  c-lt = rotate-lt 64 (lit< tt) (s .clocks) (s .nesn .0)
+  c-lt = rotate-lt 64 (s .clocks) (s .nesn .0)
 
   e-lt : e < 64
   e-lt = distance-lt 64 (lit< tt) (s .nesn .0) (s .hsnr .0)

@@ -4,7 +4,7 @@ use mathlib.Core.Path.{_≡_, refl, sym, ap, ap₂, _∙_}
 use mathlib.Core.Bool.{Bool, not, cond, _&&_}
 use mathlib.Core.List.{List}
 use mathlib.Core.Logic.{_≢_}
-use Prim.Native.Nat.{ℕ, _+_, _-_, _*_, _%_, _^_, _<_}
+use Prim.Native.Nat.{ℕ, zero, suc, _+_, _-_, _*_, _%_, _^_, _≤_, _<_}
 use native.Mathlib.Nat.{mod-lt}
 use native.Mathlib.Decide.{decLt}
 use native.Mathlib.Omega.{arith}
@@ -99,6 +99,17 @@ module _ (nesn : ℕ) where
       let l = ticketsLeft tickets nesn i in
       let n = (nesn + i) % 64 in
       sym (set-getD l n 0) ∙ ap (set l n) (left-next tickets i h ∙ z) ∙ left-more tickets l i n h refl refl
+
+  -- numbers passed, one after the other, whose tickets are 0 already
+  pub left-past : (tickets : List ℕ) (i n : ℕ) → i ≤ n → n ≤ 64 → ((j : ℕ) → i ≤ j → j < n → getD tickets ((nesn + j) % 64) 0 ≡ 0)
+      → ticketsLeft tickets nesn i ≡ ticketsLeft tickets nesn n
+  left-past tickets i n h b f = go (n - i) (omega arith) ∙ ap (ticketsLeft tickets nesn) (omega arith)
+    where
+      go : (t : ℕ) → i + t ≤ n → ticketsLeft tickets nesn i ≡ ticketsLeft tickets nesn (i + t)
+      go zero l = ap (ticketsLeft tickets nesn) (omega arith)
+      go (suc t) l =
+          go t (omega arith) ∙ left-same tickets (i + t) (omega arith) (f (i + t) (omega arith) (omega arith))
+          ∙ ap (ticketsLeft tickets nesn) (omega arith)
 
 -- ---- the state after NESN has gone up
 

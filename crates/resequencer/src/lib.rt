@@ -186,14 +186,13 @@ fn gather_held(
 {
     out[0] = ticket;
     let mut count = d;
-    for i in 0..m {
-        let number = (start + i) % 64;
-        if set64::member(held, number) {
-            let from = number as usize;
-            let to = count as usize;
-            out[to] = tickets[from];
-            count += 1;
-        }
+    let mut left = set64::stretch(held, start, m);
+    while left != 0 {
+        let from = ((start + set64::lowest(left)) % 64) as usize;
+        let to = count as usize;
+        out[to] = tickets[from];
+        left = set64::without_lowest(left);
+        count += 1;
     }
     count
 }

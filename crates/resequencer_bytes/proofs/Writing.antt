@@ -164,12 +164,6 @@ module _ (b : List ℕ) (l : length b ≡ 146) (low : Below 256 b) where
         ∙ ap (withTickets b) (ap (λ (s : List ℕ). set s number 0) (left-read nesn i state e) ∙ left-more nesn (ticketsIn (drop 18 b)) (left nesn i) i number h refl q) in
         (ap length y ∙ with-tickets-length b (left nesn (i + 1)) l (left-long nesn (i + 1)), y)
 
-    pub left-bare : getD (ticketsIn (drop 18 b)) number 0 ≡ 0 → (x : List ℕ) → x ≡ state → (length x ≡ 146) × (x ≡ withTickets b (left nesn (i + 1)))
-    left-bare z x p =
-        let y : x ≡ withTickets b (left nesn (i + 1)) =
-        p ∙ e ∙ ap (withTickets b) (left-same nesn (ticketsIn (drop 18 b)) i h (ap (λ (n : ℕ). getD (ticketsIn (drop 18 b)) n 0) (sym q) ∙ z)) in
-        (ap length y ∙ with-tickets-length b (left nesn (i + 1)) l (left-long nesn (i + 1)), y)
-
 -- ---- the whole state
 
 -- replacing the tickets and the first 18 bytes by those of s gives the bytes of s

@@ -200,13 +200,12 @@ fn hand_on(state: &mut [u8], out: &mut [u16], held: u64, start: u8, d: u8, ticke
 {
     out[0] = ticket;
     let mut count = d;
-    for i in 0..m {
-        let number = (start + i) % 64;
-        if set64::member(held, number) {
-            let to = count as usize;
-            out[to] = take_ticket(state, number);
-            count += 1;
-        }
+    let mut left = set64::stretch(held, start, m);
+    while left != 0 {
+        let to = count as usize;
+        out[to] = take_ticket(state, (start + set64::lowest(left)) % 64);
+        left = set64::without_lowest(left);
+        count += 1;
     }
     count
 }

@@ -401,12 +401,10 @@ fn tell_set(title: &[u8], set: u64, good: &mut bool) {
     if set == 0 {
         text(b" -", good);
     }
-    let mut n: u8 = 0;
-    while n < 64 {
-        if set64::member(set, n) {
-            listed(n as usize, good);
-        }
-        n = n + 1;
+    let mut left = set;
+    while left != 0 {
+        listed(set64::lowest(left) as usize, good);
+        left = set64::without_lowest(left);
     }
 }
 

@@ -4,4 +4,6 @@ pub mod Sets
 pub mod Words
 pub mod Rings
 pub mod Masks
+pub mod Runs
+pub mod Walks
 pub mod Counts

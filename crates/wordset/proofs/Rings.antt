@@ -10,7 +10,7 @@ use lib.Dec.{eqb}
 use lib.Pow.{pow-pos, shr-le}
 use lib.Bits.{bitOr, or-lt}
 use lib.Count.{trailingZeros}
-use Rattle.wordset.specs.Sets.{bit, member, digit, rotate, run}
+use Rattle.wordset.specs.Sets.{bit, member, digit, rotate, run, ahead}
 use Rattle.wordset.proofs.Digits.{bit-past, bit-or, bit-not, bit-shr, bit-shl-low, bit-shl-high, bit-mod}
 use Rattle.wordset.proofs.Sets.{bit-member, member-bit, setOf-lt, member-setOf, first-same, lowest-zeros}
 use Rattle.wordset.proofs.Words.{is-set}
@@ -37,13 +37,27 @@ max-zero-l x = omega arith
 max-zero-r : (x : ℕ) → max x 0 ≡ x
 max-zero-r x = omega arith
 
-module _ (k : ℕ) (pos : 0 < k) where
+module _ (k : ℕ) where
   pub member-rotate : (w s j : ℕ) → j < k → member (rotate k w s) j ≡ member w ((s + j) % k)
   member-rotate w s = member-setOf k (λ j. member w ((s + j) % k))
 
   pub rotate-lt : (w s : ℕ) → rotate k w s < 2 ^ k
   rotate-lt w s = setOf-lt k (λ j. member w ((s + j) % k))
 
+  -- ---- the number of trailing zeros of the rotated word's complement is the length of the run
+
+  pub zeros-run : (w s : ℕ) → trailingZeros k (2 ^ k - 1 - rotate k w s) ≡ run k w s
+  zeros-run w s =
+      lowest-zeros k (2 ^ k - 1 - rotate k w s)
+      ∙ first-same k (member (2 ^ k - 1 - rotate k w s)) (λ j. not (member w ((s + j) % k))) (λ j l.
+      member-not k (rotate k w s) j (rotate-lt w s) l ∙ ap not (member-rotate w s j l))
+
+  -- ---- the number of its own trailing zeros is how far ahead the first member is
+
+  pub zeros-ahead : (w s : ℕ) → trailingZeros k (rotate k w s) ≡ ahead k w s
+  zeros-ahead w s = lowest-zeros k (rotate k w s) ∙ first-same k (member (rotate k w s)) (λ j. member w ((s + j) % k)) (member-rotate w s)
+
+module _ (k : ℕ) (pos : 0 < k) where
   -- ---- the word shifted down, with the bits that fall out put in at the top
 
   abbrev shifts : ℕ → ℕ → ℕ
@@ -86,11 +100,3 @@ module _ (k : ℕ) (pos : 0 < k) where
       (λ j b.
       same-bit (shifts w (s % k)) w j ((s % k + j) % k) (bit-shifts w (s % k) h (mod-lt s pos) j b)
       ∙ ap (member w) (mod-add-mod s k j))
-
-  -- ---- the number of trailing zeros of the rotated word's complement is the length of the run
-
-  pub zeros-run : (w s : ℕ) → trailingZeros k (2 ^ k - 1 - rotate k w s) ≡ run k w s
-  zeros-run w s =
-      lowest-zeros k (2 ^ k - 1 - rotate k w s)
-      ∙ first-same k (member (2 ^ k - 1 - rotate k w s)) (λ j. not (member w ((s + j) % k))) (λ j l.
-      member-not k (rotate k w s) j (rotate-lt w s) l ∙ ap not (member-rotate w s j l))

@@ -136,6 +136,15 @@ first-most k p j e = go (decLt j (first k p))
     go (yes h) = absurd (true≢false (sym e ∙ first-least k p j h))
     go (no h) = omega arith
 
+-- no other number is it
+pub first-only : (k : ℕ) (p : ℕ → Bool) (n : ℕ) → n ≤ k → ((j : ℕ) → j < n → p j ≡ false) → (n < k → p n ≡ true) → n ≡ first k p
+unfolding first
+first-only zero p n h f t = omega arith
+first-only (suc k) p zero h f t = sym (ap (λ (b : Bool). cond b 0 (suc (first k (λ j. p (suc j))))) (t (omega arith)))
+first-only (suc k) p (suc n) h f t =
+    ap suc (first-only k (λ j. p (suc j)) n (omega arith) (λ j l. f (suc j) (omega arith)) (λ l. t (omega arith)))
+    ∙ sym (ap (λ (b : Bool). cond b 0 (suc (first k (λ j. p (suc j))))) (f 0 (omega arith)))
+
 -- only the numbers below k matter
 pub first-same : (k : ℕ) (p q : ℕ → Bool) → ((j : ℕ) → j < k → p j ≡ q j) → first k p ≡ first k q
 unfolding first
@@ -169,7 +178,7 @@ lowest-zeros (suc k) w =
     go false = refl
 
 -- a word of k bits that is not 0 has a member below k
-lowest-below : (k w : ℕ) → 0 < w → w < 2 ^ k → first k (member w) < k
+pub lowest-below : (k w : ℕ) → 0 < w → w < 2 ^ k → first k (member w) < k
 lowest-below k w p h = go (decLt (first k (member w)) k)
   where
     go : Dec (first k (member w) < k) → first k (member w) < k
@@ -188,7 +197,6 @@ set-laws k = record {
   member-past = member-past k;
   same = same-members k;
   count-ones = count-ones k;
-  lowest-zeros = lowest-zeros k;
   lowest-none = sym (lowest-zeros k 0) ∙ trailing-of-zero k;
   lowest-is = λ w h. record { in-set = first-picked k (member w) h; least = first-least k (member w) };
   lowest-below = lowest-below k;

@@ -5,7 +5,7 @@ use mathlib.Core.Path.{_≡_}
 use mathlib.Core.Bool.{Bool, true, false, not, _&&_, _||_}
 use Prim.Native.Nat.{ℕ, _^_, _≤_, _<_}
 use lib.Dec.{eqb}
-use lib.Count.{ones, trailingZeros}
+use lib.Count.{ones}
 use Rattle.wordset.specs.Sets.{member, setOf, with, union, difference, count, lowest}
 
 -- n is the lowest number in the set w
@@ -25,8 +25,7 @@ pub record SetLaws (k : ℕ) : Type 0 where
   pub same : (a b : ℕ) → a < 2 ^ k → b < 2 ^ k → ((j : ℕ) → j < k → member a j ≡ member b j) → a ≡ b
   -- the machine's count of ones is the number of members
   pub count-ones : (w : ℕ) → w < 2 ^ k → ones w ≡ count k w
-  -- the machine's count of trailing zeros is the lowest member; both are k for an empty set
-  pub lowest-zeros : (w : ℕ) → trailingZeros k w ≡ lowest k w
+  -- the lowest member; k for an empty set
   pub lowest-none : lowest k 0 ≡ k
   pub lowest-is : (w : ℕ) → lowest k w < k → IsLowest w (lowest k w)
   pub lowest-below : (w : ℕ) → 0 < w → w < 2 ^ k → lowest k w < k

@@ -6,7 +6,7 @@
 -- Assumes nothing.
 use mathlib.Core.Bool.{Bool, true, false, not, cond, _&&_, _||_}
 use Prim.Native.Nat.{ℕ, zero, suc, _+_, _*_, _/_, _%_, _^_}
-use lib.Dec.{eqb}
+use lib.Dec.{eqb, ltb}
 
 -- bit j of the word w, 0 or 1
 unfoldable pub bit : ℕ → ℕ → ℕ
@@ -58,6 +58,10 @@ count k w = howMany k (member w)
 abbrev pub lowest : ℕ → ℕ → ℕ
 lowest k w = first k (member w)
 
+-- the set without its lowest number
+abbrev pub withoutLowest : ℕ → ℕ → ℕ
+withoutLowest k w = setOf k (λ j. member w j && not (eqb j (lowest k w)))
+
 -- ---- numbers modulo k: k - 1 is followed by 0
 
 -- the set w rotated down by s: j is in it exactly if s + j modulo k is in w
@@ -67,6 +71,18 @@ rotate k w s = setOf k (λ j. member w ((s + j) % k))
 -- how many numbers starting at s are in the set without a gap, modulo k; at most k
 abbrev pub run : ℕ → ℕ → ℕ → ℕ
 run k w s = first k (λ j. not (member w ((s + j) % k)))
+
+-- the numbers in the set among the n numbers starting at s, modulo k, each as its distance from s
+abbrev pub stretch : ℕ → ℕ → ℕ → ℕ → ℕ
+stretch k w s n = setOf k (λ j. member w ((s + j) % k) && ltb j n)
+
+-- how far up from s the first number in the set is, modulo k; k if the set is empty
+abbrev pub ahead : ℕ → ℕ → ℕ → ℕ
+ahead k w s = first k (λ j. member w ((s + j) % k))
+
+-- the first number in the set going up from s, modulo k; k if the set is empty
+abbrev pub firstFrom : ℕ → ℕ → ℕ → ℕ
+firstFrom k w s = cond (ltb (ahead k w s) k) ((s + ahead k w s) % k) k
 
 -- ---- a test of every number below k: whether p is true for all of them
 

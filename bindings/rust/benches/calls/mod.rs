@@ -43,7 +43,9 @@ macro_rules! calls {
 calls! {
     "arrive-in-order" arrive_in_order false;
     "arrive-early" arrive_early false;
+    "arrive-at-gap" arrive_at_gap false;
     "clock-end" clock_end false;
+    "clock-end-far" clock_end_far false;
     "send" send false;
     "receive" receive false;
     "write-data" write_data false;
@@ -100,6 +102,39 @@ fn arrive_early<V: Version>() -> Run {
         turn += 1;
         V::arrive(black_box(&mut state), sn, TICKET, black_box(&mut places))
     })
+}
+
+/// The expected packet, with the other 31 numbers of the window held: 32 tickets leave each time.
+fn arrive_at_gap<V: Version>() -> Run {
+    let start = V::resequencer(&holding(1..32));
+    let (mut state, mut places) = (start.clone(), [0; 32]);
+    looped(move || {
+        black_box(&mut state).clone_from(&start);
+        V::arrive(black_box(&mut state), 50, TICKET, black_box(&mut places))
+    })
+}
+
+/// Only the last number of the window is held: 31 numbers are given up and one ticket leaves each
+/// time.
+fn clock_end_far<V: Version>() -> Run {
+    let start = V::resequencer(&holding(31..32));
+    let (mut state, mut places) = (start.clone(), [0; 32]);
+    looped(move || {
+        black_box(&mut state).clone_from(&start);
+        V::clock_end(black_box(&mut state), (50 + 31) % 64, black_box(&mut places))
+    })
+}
+
+/// NESN 50, with the numbers at these distances from it held.
+fn holding(distances: std::ops::Range<u8>) -> Resequencer {
+    let mut state = Resequencer {
+        nesn: 50,
+        ..Resequencer::fresh()
+    };
+    for distance in distances {
+        state.arrive((50 + distance) % 64, TICKET, &mut [0; 32]).unwrap();
+    }
+    state
 }
 
 /// Ten runs of two numbers, each with a clock: the clocks end from the nearest on, two tickets

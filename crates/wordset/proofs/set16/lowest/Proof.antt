@@ -2,7 +2,7 @@
 -- Assumes nothing.
 use native.Mathlib.Omega.{arith}
 use lib.Count.{leading-le, trailing-le}
-use Rattle.wordset.proofs.Sets.{set-laws}
+use Rattle.wordset.proofs.Sets.{lowest-zeros}
 use Rattle.wordset.proofs.set16.lowest.Statement.{statement}
 use Rattle.wordset.proofs.set16.lowest.Tie as tie
 
@@ -11,7 +11,7 @@ cast-result : tie.Need-cast-result
 cast-result c = omega (arith, trailing-le 16 (c .args .set), leading-le 16 (c .args .set))
 
 returns : tie.Need-returns
-returns c = set-laws 16 .lowest-zeros _
+returns c = lowest-zeros 16 _
 
 pub lowest-spec : {M : Type 1} → statement M
 lowest-spec = tie.close (tie.spec cast-result returns)
