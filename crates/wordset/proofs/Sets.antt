@@ -6,10 +6,10 @@ use Prim.Native.Nat.{ℕ, zero, suc, _+_, _*_, _/_, _%_, _^_, _≤_, _<_, zero-l
 use native.Mathlib.Nat.{not-suc-le-zero, pow-suc}
 use native.Mathlib.Decide.{decLt}
 use native.Mathlib.Omega.{arith}
-use lib.Dec.{eqb, lit<}
+use lib.Dec.{eqb, ltb, lit<}
 use lib.Count.{ones, ones-step, trailingZeros, trailing-of-zero, under}
 use lib.Pow.{pow-pos}
-use Rattle.wordset.specs.Sets.{bit, member, digit, setOf, howMany, first, every}
+use Rattle.wordset.specs.Sets.{bit, member, digit, setOf, howMany, first, lowest, every}
 use Rattle.wordset.specs.Laws.{SetLaws}
 use Rattle.wordset.proofs.Digits.{bit-lt, bit-zero, bit-half, bit-past, half-lt, same-bits}
 
@@ -193,6 +193,9 @@ set-laws k = record {
   member-with = λ w n. member-setOf k (λ j. member w j || eqb j n);
   member-union = λ a b. member-setOf k (λ j. member a j || member b j);
   member-difference = λ a b. member-setOf k (λ j. member a j && not (member b j));
+  member-without = λ w. member-setOf k (λ j. member w j && not (eqb j (lowest k w)));
+  member-rotate = λ w s. member-setOf k (λ j. member w ((s + j) % k));
+  member-stretch = λ w s n. member-setOf k (λ j. member w ((s + j) % k) && ltb j n);
   fits = setOf-lt k;
   member-past = member-past k;
   same = same-members k;

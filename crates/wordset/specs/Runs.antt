@@ -16,7 +16,7 @@ trailingOnes k w = trailingZeros k (2 ^ k - 1 - w)
 -- ---- the run of ones
 
 -- r is the length of the run of ones in w that starts at place s and goes on past k - 1 to 0: each
--- place of it is a one, and the place after it is none, unless the run is the whole word
+-- place of the run has a one, and the place after it has a zero, unless the run is the whole word
 pub record IsRun (k w s r : ℕ) : Type 0 where
   pub at-most : r ≤ k
   pub ones : (j : ℕ) → j < r → member w ((s + j) % k) ≡ true
@@ -31,7 +31,7 @@ pub record RunLaw (k : ℕ) : Type 0 where
   pub is-run : (w s : ℕ) → trailingOnes k (rotate k w s) ≡ run k w s
   -- the run of a word of ones is the whole word, from any start
   pub full : (s : ℕ) → run k (2 ^ k - 1) s ≡ k
-  -- a start that is no one has no run
+  -- where the start has a zero the run is empty
   pub none : (w s : ℕ) → member w (s % k) ≡ false → run k w s ≡ 0
 
 -- ---- the lowest one
@@ -56,7 +56,8 @@ pub record IsFirst (k w s n : ℕ) : Type 0 where
   pub none-before : (j : ℕ) → j < steps → member w ((s + j) % k) ≡ false
 
 pub record FirstLaw (k : ℕ) : Type 0 where
-  -- the trailing zeros of the word rotated down by s, which is not 0, lead from s to the first one
+  -- in a word that is not 0, as many steps as the word rotated down by s has trailing zeros lead from
+  -- s to the first one
   pub counted : (w s : ℕ) → 0 < w → w < 2 ^ k → IsFirst k w s ((s + trailingZeros k (rotate k w s)) % k)
   -- no other place is the first one
   pub only : (w s n : ℕ) → IsFirst k w s n → n ≡ firstFrom k w s
