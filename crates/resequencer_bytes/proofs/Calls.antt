@@ -38,9 +38,9 @@ module _ (b : List ℕ) (g : inOrder (stateIn b) ≡ true) where
   nesn-low = in-order (stateIn b) g .nesn-lt
 
   -- the ticket of a number that is not held is 0
-  pub bare-ticket : (n : ℕ) (r : Bool) → n < 64 → r ≡ member (stateIn b .held) n → r ≡ false → getD (ticketsIn (drop 18 b)) n 0 ≡ 0
+  pub bare-ticket : (n : ℕ) → n < 64 → member (stateIn b .held) n ≡ false → getD (ticketsIn (drop 18 b)) n 0 ≡ 0
   unfolding stateIn
-  bare-ticket n r h e f = in-order (stateIn b) g .tickets n h (sym e ∙ f)
+  bare-ticket n h e = in-order (stateIn b) g .tickets n h e
 
   -- the ticket of NESN is 0
   pub nesn-bare : getD (ticketsIn (drop 18 b)) (stateIn b .nesn .0) 0 ≡ 0
@@ -50,7 +50,7 @@ module _ (b : List ℕ) (g : inOrder (stateIn b) ≡ true) where
       here = omega (arith, nesn-low)
 
       go : (t : Bool) → member (stateIn b .held) (stateIn b .nesn .0) ≡ t → getD (ticketsIn (drop 18 b)) (stateIn b .nesn .0) 0 ≡ 0
-      go false e = bare-ticket (stateIn b .nesn .0) false nesn-low (sym e) refl
+      go false e = bare-ticket (stateIn b .nesn .0) nesn-low e
       go true e =
           absurd (omega (arith, in-order (stateIn b) g .window 0 (lit< tt) (ap (member (stateIn b .held)) here ∙ e) .0))
 

@@ -10,7 +10,7 @@ use lib.Dec.{ltb}
 use borrow.Author.Tests.{not-true, not-false, lt-ltb, le-ltb}
 use Rattle.wordset.specs.Sets.{member, lowest, run, ahead, firstFrom}
 use Rattle.wordset.specs.Laws.{IsLowest}
-use Rattle.wordset.specs.Runs.{IsRun, RunLaw, LowestLaw, IsFirst, FirstLaw, Counts}
+use Rattle.wordset.specs.Runs.{IsRun, RunLaw, LowestLaw, IsFirst, FirstLaw, TrailingCounts}
 use Rattle.wordset.proofs.Sets.{member-none, member-past, first-le, first-picked, first-least, first-most, first-only, first-same, lowest-zeros, lowest-below}
 use Rattle.wordset.proofs.Rings.{zeros-run, zeros-ahead}
 use Rattle.wordset.proofs.Masks.{member-ones}
@@ -148,8 +148,8 @@ module _ (k : ℕ) where
     from-zero = first-from-zero;
   }
 
-pub counts : Counts
-counts = record {
+pub trailing-counts : TrailingCounts
+trailing-counts = record {
   runs-in-64 = run-law 64;
   lowest-in-16 = lowest-law 16;
   runs-in-16 = run-law 16;

@@ -1,6 +1,6 @@
 -- Counts of trailing ones and zeros in a rotated word: document 02, Q-2, as claims with the width k
 -- of the word as a parameter. `run-law`, `lowest-law` and `first-law` in proofs/Runs.antt prove
--- them for every k; `Counts` has them at the two widths that the request names.
+-- them for every k; `TrailingCounts` has them at the two widths that the request names.
 -- Assumes nothing.
 use mathlib.Core.Path.{_≡_}
 use mathlib.Core.Bool.{true, false}
@@ -69,7 +69,7 @@ pub record FirstLaw (k : ℕ) : Type 0 where
 
 -- ---- the request's two sentences, and the same at the other width
 
-pub record Counts : Type 0 where
+pub record TrailingCounts : Type 0 where
   -- "for every 64-bit word and start that the count is the length of the run of ones from there, on
   -- past 63 to 0, at most 64"
   pub runs-in-64 : RunLaw 64

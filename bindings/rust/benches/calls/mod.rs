@@ -87,10 +87,7 @@ fn arrive_in_order<V: Version>() -> Run {
 /// Every number of the window but the first, by turns far and near, from NESN 50; then again
 /// from the start.
 fn arrive_early<V: Version>() -> Run {
-    let start = V::resequencer(&Resequencer {
-        nesn: 50,
-        ..Resequencer::fresh()
-    });
+    let start = V::resequencer(&holding(1..1));
     let arrivals: Vec<u8> = (1..32u8).map(|at| (50 + (at * 12) % 31 + 1) % 64).collect();
     let (mut state, mut places, mut turn) = (start.clone(), [0; 32], 0);
     looped(move || {
@@ -140,10 +137,7 @@ fn holding(distances: std::ops::Range<u8>) -> Resequencer {
 /// Ten runs of two numbers, each with a clock: the clocks end from the nearest on, two tickets
 /// leave each time; then again from the start.
 fn clock_end<V: Version>() -> Run {
-    let mut held = Resequencer {
-        nesn: 50,
-        ..Resequencer::fresh()
-    };
+    let mut held = holding(1..1);
     let first = |run: u8| (50 + 3 * run + 1) % 64;
     for run in 0..10 {
         for sn in [first(run), (first(run) + 1) % 64] {

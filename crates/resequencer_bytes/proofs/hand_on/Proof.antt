@@ -35,8 +35,7 @@ past b out held start d ticket m p i n h l f =
     bare : (j : ℕ) → d + i ≤ j → j < d + n → getD (ticketsIn (drop 18 b)) ((stateIn b .nesn .0 + j) % 64) 0 ≡ 0
     bare j g k =
         let e : (start + (j - d)) % 64 ≡ (stateIn b .nesn .0 + j) % 64 = omega (arith, p .start-is) in
-        bare-ticket b (p .order) ((stateIn b .nesn .0 + j) % 64) false (omega arith)
-        (sym (f (j - d) (omega arith) (omega arith)) ∙ ap₂ member (p .held-is) e) refl
+        bare-ticket b (p .order) ((stateIn b .nesn .0 + j) % 64) (omega arith) (sym (ap₂ member (p .held-is) e) ∙ f (j - d) (omega arith) (omega arith))
 
 abbrev Inv-loop : tie.InvT-loop
 Inv-loop state₀ out₀ held start d ticket m count₀ left₀ state out count left =
