@@ -110,7 +110,6 @@ module _ (k : ℕ) where
   pub record Turned (w s n left at z : ℕ) : Type 0 where
     pub low : at ≤ z
     pub in-stretch : z < n
-    pub in-word : z < k
     pub found : member w ((s + z) % k) ≡ true
     pub none-before : (j : ℕ) → at ≤ j → j < z → member w ((s + j) % k) ≡ false
     pub walked : Walked w s n (withoutLowest k left) (z + 1)
@@ -145,7 +144,6 @@ module _ (k : ℕ) where
       record {
         low = h;
         in-stretch = l;
-        in-word = b;
         found = t .0;
         none-before = λ j g c. walk-none w s n left at v j (omega arith) (omega arith) g (first-least k (member left) j c);
         walked = record {

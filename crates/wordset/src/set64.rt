@@ -71,7 +71,7 @@ pub fn run(set: u64, start: u8) -> u8
 }
 
 // The members among the `size` numbers starting at `start`, 63 being followed by 0, each as its
-// distance from `start`. Nothing is rotated for a size of 0, which is the most frequent one.
+// distance from `start`. Nothing is rotated for a size of 0, which an arrival in order asks for.
 pub fn stretch(set: u64, start: u8, size: u8) -> u64
     ensures { λ r. ⌜ r ≡ stretch 64 set start size ⌝ }
 {
