@@ -169,7 +169,12 @@ static void forms(void)
     unsigned segments;
     size_t i;
 
-    largest(PK_SHORT_UPLINK, 28, 28);
+    memset(packet, 0, sizeof packet);
+    packet[0] = PK_DATA;
+    OF64(PK_NUMBER, write_frame(PK_SHORT_UPLINK, 0), PK_SHORT_FORM);
+    OF64(PK_WRITE_BYTES, write_frame(PK_SHORT_UPLINK, 0), 0);
+    packet[2] = 64;
+    OF64(PK_NUMBER, write_frame(PK_SHORT_UPLINK, 0), PK_OUT_OF_RANGE);
     largest(PK_LONG_UPLINK, 152, 160);
     for (segments = 1; segments <= 16; segments++) {
         IS(pk_long_downlink(segments), segments);
@@ -250,6 +255,11 @@ static void messages(void)
     OF64(PK_CUT_FRAMES, answer, 0);
     OF64(PK_CUT_BYTES, answer, 0);
     OF64(PK_NUMBER, cut(4097, 4), PK_MESSAGE_TOO_LONG);
+    answer = pk_message_cut(PK_SHORT_UPLINK, 63, 15, 2, 4, message, 4097, frames, sizeof frames,
+                            lengths, 4);
+    OF64(PK_NUMBER, answer, PK_SHORT_FORM);
+    OF64(PK_CUT_FRAMES, answer, 0);
+    OF64(PK_CUT_BYTES, answer, 0);
 }
 
 static uint32_t update(const uint8_t *list, size_t bytes, size_t places)
@@ -314,6 +324,7 @@ static void constants(void)
     for (number = 0; number < sizeof refusals / sizeof refusals[0]; number++)
         check("a refusal's number", refusals[number], number);
     IS(number, 18);
+    IS(PK_SHORT_FORM, 23);
     IS(PK_SENDER_BYTES, 2);
     IS(PK_RECEIVER_BYTES, 3);
     IS(PK_RESEQUENCER_BYTES, 146);

@@ -60,6 +60,7 @@ extern "C" {
 #define PK_ALL_FAILED 15           /* every interrogator of that address has failed */
 #define PK_NEVER_SENT 16           /* PR acknowledges what was never sent */
 #define PK_RUN_BROKEN 17           /* SN, PS or CH breaks the run while joining */
+#define PK_SHORT_FORM 23           /* writing or cutting in the short uplink form */
 
 /* The refusal number of any answer. */
 #define PK_NUMBER(answer) ((uint8_t)((answer) & 0xFF))
@@ -134,7 +135,8 @@ uint32_t pk_resequencer_clock_end(uint8_t *state, size_t state_len, uint16_t *ti
                                   size_t tickets_len, uint8_t sn);
 
 /* ---- frames. A form is one number: 0 short uplink, 1 to 16 long downlink with that many segments,
- * 17 long uplink. Every call refuses any other number with 1. */
+ * 17 long uplink. Every call refuses any other number with 1. The short uplink form is read and
+ * joined; writing and cutting refuse it with 23. */
 
 #define PK_SHORT_UPLINK 0
 #define PK_LONG_UPLINK 17
@@ -161,7 +163,8 @@ static inline uint8_t pk_long_downlink(unsigned segments)
 /* Writes a packet and its user data as one frame to the front of `out`; bytes beyond the frame keep
  * what they held. Bits 8 and up are the frame's length. Refused with 1 (also if `packet` has not 10
  * bytes, and for an unknown kind, a flag over 1, a byte other than 0 that the kind has no use for,
- * and user data with a CONFIRMATION), 13, 5. `user` and `out` are not NULL, even with length 0. */
+ * and user data with a CONFIRMATION), 23, 13, 5. `user` and `out` are not NULL, even with length
+ * 0. */
 uint64_t pk_frame_write(uint8_t form, const uint8_t *packet, size_t packet_len, const uint8_t *user,
                         size_t user_len, uint8_t *out, size_t out_len);
 #define PK_WRITE_BYTES(answer) ((size_t)((answer) >> 8))
@@ -180,7 +183,7 @@ uint64_t pk_frame_read(uint8_t form, const uint8_t *frame, size_t frame_len, uin
 /* Cuts a message into DATA frames, written one after the other to `out`, their lengths to
  * `lengths`; places beyond keep what they held. SN and PS count up from those given, PR and CH are
  * the same on all. Bits 8 to 31 are the number of frames, bits 32 and up their bytes in all.
- * Refused with 1, 4, 5. No list is NULL, even with length 0. */
+ * Refused with 1, 23, 4, 5. No list is NULL, even with length 0. */
 uint64_t pk_message_cut(uint8_t form, uint8_t sn, uint8_t ps, uint8_t pr, uint8_t ch,
                         const uint8_t *message, size_t message_len, uint8_t *out, size_t out_len,
                         size_t *lengths, size_t lengths_len);

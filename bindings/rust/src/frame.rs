@@ -12,7 +12,8 @@ use crate::{raw, LinkNumber, PacketNumber, Refusal};
 /// ```
 #[derive(Clone, Copy, Debug, PartialEq, Eq, Hash)]
 pub enum Form {
-    /// Segments of 7 bytes, packets of at most 28.
+    /// Segments of 7 bytes, packets of at most 28. It is read and joined; writing and cutting
+    /// refuse it with 23.
     ShortUplink,
     /// Segments of 10 bytes, packets of at most 152.
     LongUplink,
@@ -148,7 +149,7 @@ impl Packet {
 
 /// Writes a packet and its user data as one frame to the front of `out`; answers the frame's
 /// length. Bytes beyond the frame keep what they held. Refused with 1 (also for user data with a
-/// CLEAR CONFIRMATION), 13, 5.
+/// CLEAR CONFIRMATION), 23 (the short uplink form), 13, 5.
 ///
 /// ```
 /// use pepperknoll::{write_frame, Form, LinkNumber, Packet, PacketNumber, Refusal};
@@ -165,6 +166,8 @@ impl Packet {
 /// assert_eq!(&out, b"\xC5\x32\x47four\0\0\0\xEE\xEE");
 /// let refused = write_frame(Form::LongUplink, &packet, &[0; 150], &mut out);
 /// assert_eq!(refused, Err(Refusal::PacketTooLong));
+/// let refused = write_frame(Form::ShortUplink, &packet, b"four", &mut out);
+/// assert_eq!(refused, Err(Refusal::ShortForm));
 /// ```
 #[inline]
 pub fn write_frame(

@@ -27,7 +27,8 @@ pub struct Cut {
 }
 
 /// Cuts a message into as few DATA frames as can be, one after the other in `out`, their lengths
-/// in `lengths`. Places beyond keep what they held. Refused with 1, 4, 5.
+/// in `lengths`. Places beyond keep what they held. Refused with 1, 23 (the short uplink form), 4,
+/// 5.
 ///
 /// ```
 /// use pepperknoll::{cut, join, Cut, Form, LinkNumber, PacketNumber, Refusal, Start};

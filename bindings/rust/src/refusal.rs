@@ -49,6 +49,9 @@ pub enum Refusal {
     NeverSent = 16,
     /// 17: SN, PS or CH breaks the run while joining.
     RunBroken = 17,
+    /// 23: a frame is to be written, or a message cut, in the short uplink form, which is read and
+    /// joined but no longer written.
+    ShortForm = 23,
 }
 
 /// The two codes with which a call is cleared; [`Refusal::clearing`] gives them. They go into the
@@ -63,7 +66,7 @@ pub struct Clearing {
 
 impl Refusal {
     /// All refusals, by rising number.
-    pub const ALL: [Refusal; 17] = [
+    pub const ALL: [Refusal; 18] = [
         Refusal::OutOfRange,
         Refusal::Malformed,
         Refusal::FormatError,
@@ -81,9 +84,10 @@ impl Refusal {
         Refusal::AllFailed,
         Refusal::NeverSent,
         Refusal::RunBroken,
+        Refusal::ShortForm,
     ];
 
-    /// The refusal's number, 1 to 17.
+    /// The refusal's number, 1 to 17 or 23.
     #[inline]
     pub const fn number(self) -> u8 {
         self as u8
@@ -101,6 +105,7 @@ impl Refusal {
     pub const fn from_number(number: u8) -> Option<Refusal> {
         match number {
             1..=17 => Some(Refusal::ALL[number as usize - 1]),
+            23 => Some(Refusal::ShortForm),
             _ => None,
         }
     }
@@ -153,6 +158,7 @@ impl fmt::Display for Refusal {
             Refusal::AllFailed => "every interrogator of that address has failed",
             Refusal::NeverSent => "PR acknowledges what was never sent",
             Refusal::RunBroken => "SN, PS or CH breaks the run",
+            Refusal::ShortForm => "the short uplink form is no longer written",
         })
     }
 }
@@ -165,15 +171,15 @@ mod tests {
     use std::collections::HashSet;
 
     #[test]
-    fn numbers_are_1_to_17_and_come_back() {
+    fn numbers_are_those_of_the_table_and_come_back() {
         let numbers: Vec<u8> = Refusal::ALL
             .iter()
             .map(|refusal| refusal.number())
             .collect();
-        assert_eq!(numbers, (1..=17).collect::<Vec<u8>>());
+        assert_eq!(numbers, (1..=17).chain([23]).collect::<Vec<u8>>());
         for number in 0..=255 {
             let back = Refusal::from_number(number).map(Refusal::number);
-            assert_eq!(back, (1..=17).contains(&number).then_some(number));
+            assert_eq!(back, numbers.contains(&number).then_some(number));
         }
     }
 
@@ -190,6 +196,6 @@ mod tests {
     #[test]
     fn sentences_differ() {
         let sentences: HashSet<String> = Refusal::ALL.iter().map(Refusal::to_string).collect();
-        assert_eq!(sentences.len(), 17);
+        assert_eq!(sentences.len(), Refusal::ALL.len());
     }
 }

@@ -195,7 +195,7 @@ pub extern "C" fn pk_resequencer_clock_end(state: &mut [u8], tickets: &mut [u16]
 // Writes a packet and its user data as one frame to the front of `out`; bytes beyond the frame keep
 // what they held. Bits 8 and up are the frame's length. Refused with 1 (a packet that has not 10
 // bytes, a kind, a form or a field that is not valid, a byte that the kind has no use for and that
-// is not 0, or user data with a CLEAR CONFIRMATION), 13, 5.
+// is not 0, or user data with a CLEAR CONFIRMATION), 23 (the short uplink), 13, 5.
 #[no_mangle]
 pub extern "C" fn pk_frame_write(form: u8, packet: &[u8], user: &[u8], out: &mut [u8]) -> u64
     ensures { λ r. ⌜ r ≡ writeAnswer form (now (packet .entry)) (length (now (user .entry))) (length (now (out .entry))) ⌝ }
@@ -220,7 +220,7 @@ pub extern "C" fn pk_frame_read(form: u8, frame: &[u8], packet: &mut [u8]) -> u6
 // Cuts a message into DATA frames: writes them to `out`, one after the other, and their lengths to
 // `lengths`; places beyond them keep what they held. SN and PS count up from `sn` and `ps`; `pr`
 // and `ch` are the same on all frames. Bits 8 to 31 are the number of frames, bits 32 and up the
-// number of their bytes. Refused with 1, 4, 5.
+// number of their bytes. Refused with 1, 23 (the short uplink), 4, 5.
 #[no_mangle]
 pub extern "C" fn pk_message_cut(
     form: u8,

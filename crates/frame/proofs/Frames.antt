@@ -9,7 +9,7 @@ use native.Mathlib.Omega.{arith}
 use lib.Dec.{leb, eqb}
 use lib.ListN.{length, drop, getD}
 use borrow.Author.Tests.{leb-true, le-leb, eq-eqb, eqb-true}
-use Rattle.refusal.specs.declared.Refusal.the-variants.{OutOfRange, Malformed, PacketTooLong, OutputTooShort}
+use Rattle.refusal.specs.declared.Refusal.the-variants.{OutOfRange, Malformed, PacketTooLong, OutputTooShort, ShortForm}
 use Rattle.refusal.specs.declared.Verdict.{Verdict}
 use Rattle.refusal.specs.declared.Verdict.the-variants.{Done, Refused}
 use Rattle.refusal.specs.Numbers.{check, andThen}
@@ -19,7 +19,7 @@ use Rattle.frame_fields.specs.Layouts.{Layout, fields, hasLv, within, header, f
 use Rattle.frame_fields.proofs.Headers.{free-back}
 use Rattle.frame_fields.proofs.Tags.{header-opens}
 use Rattle.frame_form.specs.declared.Form.{Form}
-use Rattle.frame_form.specs.Forms.{segOf, mostOf, formValid}
+use Rattle.frame_form.specs.Forms.{segOf, mostOf, formValid, isLong}
 use Rattle.frame_form.specs.Segments.{lastUsed, frameLength, wholeSegments}
 use Rattle.frame_form.proofs.Forms.{segment-some, segment-few}
 use Rattle.frame_form.proofs.Segments.{used-range, frame-whole}
@@ -52,6 +52,7 @@ written-done (Refused why) len n e = let z : _≡_ {A = ℕ} 0 1 = cc in absurd 
 pub record Accepted (form : Form) (p : Packet) (user room : ℕ) : Type 0 where
   pub good : formValid form ≡ true
   pub fit : fits p user ≡ true
+  pub long : isLong form ≡ true
   pub most : lengthOf p user ≤ mostOf form
   pub room-enough : frameLength (segOf form) (lengthOf p user) ≤ room
 
@@ -60,16 +61,19 @@ unfolding writeVerdict
 accepted form p user room e =
     let n = lengthOf p user in
     let r = check (leb (frameLength (segOf form) n) room) OutputTooShort Done in
-    let a = check-done (formValid form) OutOfRange (check (fits p user) OutOfRange (check (leb n (mostOf form)) PacketTooLong r)) e in
-    let b = check-done (fits p user) OutOfRange (check (leb n (mostOf form)) PacketTooLong r) (a .1) in
-    let c = check-done (leb n (mostOf form)) PacketTooLong r (b .1) in
+    let m = check (leb n (mostOf form)) PacketTooLong r in
+    let l = check (isLong form) ShortForm m in
+    let a = check-done (formValid form) OutOfRange (check (fits p user) OutOfRange l) e in
+    let b = check-done (fits p user) OutOfRange l (a .1) in
+    let f = check-done (isLong form) ShortForm m (b .1) in
+    let c = check-done (leb n (mostOf form)) PacketTooLong r (f .1) in
     let d = check-done (leb (frameLength (segOf form) n) room) OutputTooShort Done (c .1) in
-    record { good = a .0; fit = b .0; most = leb-true n (mostOf form) (c .0); room-enough = leb-true (frameLength (segOf form) n) room (d .0) }
+    record { good = a .0; fit = b .0; long = f .0; most = leb-true n (mostOf form) (c .0); room-enough = leb-true (frameLength (segOf form) n) room (d .0) }
 
 pub accepts : (form : Form) (p : Packet) (user room : ℕ) → Accepted form p user room → frameVerdict form p user room ≡ Done
 unfolding writeVerdict
 accepts form p user room a =
-    rw (a .good, a .fit, le-leb (lengthOf p user) (mostOf form) (a .most), le-leb (frameLength (segOf form) (lengthOf p user)) room (a .room-enough))
+    rw (a .good, a .fit, a .long, le-leb (lengthOf p user) (mostOf form) (a .most), le-leb (frameLength (segOf form) (lengthOf p user)) room (a .room-enough))
 
 -- a packet that fits has its values within their fields, and without LV it has no user data
 pub fit-parts : (p : Packet) (user : ℕ) → fits p user ≡ true

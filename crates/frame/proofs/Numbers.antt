@@ -1,20 +1,26 @@
 -- The number and the values of each answer, from the answer itself: what the further clauses of the
 -- public calls say.
 -- Assumes nothing.
-use mathlib.Core.Path.{_≡_, refl, sym, ap, subst}
+use mathlib.Core.Path.{_≡_, refl, sym, ap, _∙_, subst}
 use mathlib.Core.List.{List}
+use mathlib.Core.Logic.{_≢_}
 use Prim.Native.Nat.{ℕ, _-_}
-use lib.ListN.{length, getD}
-use Rattle.refusal.specs.declared.Refusal.the-variants.{FormatError}
+use native.Mathlib.Omega.{arith}
+use lib.Dec.{leb}
+use lib.ListN.{length, getD, drop}
+use Rattle.refusal.specs.declared.Refusal.the-variants.{OutOfRange, Malformed, FormatError, PacketTooLong}
 use Rattle.refusal.specs.declared.Verdict.{Verdict}
 use Rattle.refusal.specs.declared.Verdict.the-variants.{Done, Refused as NotDone}
-use Rattle.refusal.specs.Numbers.{verdictNumber, valueBy, andThen}
+use Rattle.refusal.specs.Numbers.{verdictNumber, valueBy, check, andThen}
+use Rattle.refusal.proofs.Checks.{check-never, then-never}
 use Rattle.frame_form.specs.declared.Form.{Form}
-use Rattle.frame_form.specs.Forms.{segOf}
-use Rattle.frame_form.specs.Segments.{frameLength}
+use Rattle.frame_form.specs.Forms.{segOf, mostOf, formValid}
+use Rattle.frame_form.specs.Segments.{frameLength, wholeSegments}
 use Rattle.frame_codec.specs.declared.Written.{Written}
 use Rattle.frame_codec.specs.Writing.{writtenNumber, writtenBytes}
-use Rattle.frame_codec.specs.Reading.{packetLength, shapeVerdict, readVerdict, userLengthBy, userLengthOf}
+use Rattle.frame_codec.specs.declared.SeenHeader.{SeenHeader}
+use Rattle.frame_codec.specs.Frames.{allZero}
+use Rattle.frame_codec.specs.Reading.{packetLength, lengthRight, shapeVerdict, contentVerdict, readVerdict, userLengthBy, userLengthOf}
 use Rattle.frame_codec.proofs.Numbers.{written-by}
 use Rattle.frame.specs.declared.Kind.{Kind}
 use Rattle.frame.specs.declared.Found.{Found}
@@ -81,3 +87,34 @@ read-says found form frame r e = (e, subst (λ (x : Read). ReadSays found form f
 pub frame-says : (form : Form) (frame : List ℕ) (r : Read) → r ≡ readOf form frame → (r ≡ readOf form frame) × ReadSays (firstNamed kinds (getD frame 0 0)) form frame r
 unfolding readOf
 frame-says form frame r e = read-says (firstNamed kinds (getD frame 0 0)) form frame r e
+
+-- ---- 23 is for writing: reading never answers it
+
+shape-never : (form : Form) (len : ℕ) → verdictNumber (shapeVerdict form len) ≢ 23
+unfolding shapeVerdict
+shape-never form len =
+    check-never 23 (formValid form) OutOfRange (check (wholeSegments (segOf form) len) Malformed Done) (λ e. omega arith)
+    (check-never 23 (wholeSegments (segOf form) len) Malformed Done (λ e. omega arith) (λ e. omega arith))
+
+content-never : (seg most : ℕ) (frame : List ℕ) (seen : SeenHeader) → verdictNumber (contentVerdict seg most frame seen) ≢ 23
+unfolding contentVerdict
+content-never seg most frame seen =
+    let n = packetLength (seen .extent) seg (length frame) in
+    let right = lengthRight (seen .extent) seg (seen .size) (length frame) in
+    let r3 = check (leb n most) PacketTooLong Done in
+    let r2 = check (allZero (drop n frame)) FormatError r3 in
+    check-never 23 (seen .right) FormatError (check right FormatError r2) (λ e. omega arith)
+    (check-never 23 right FormatError r2 (λ e. omega arith)
+    (check-never 23 (allZero (drop n frame)) FormatError r3 (λ e. omega arith)
+    (check-never 23 (leb n most) PacketTooLong Done (λ e. omega arith) (λ e. omega arith))))
+
+found-never : (found : Found) (form : Form) (frame : List ℕ) → verdictNumber (foundVerdict found form frame) ≢ 23
+unfolding foundVerdict readVerdict
+found-never (Known k) form frame =
+    let seen = seenIn (layoutOf k) frame in
+    then-never 23 (shapeVerdict form (length frame)) (contentVerdict (segOf form) (mostOf form) frame seen) (shape-never form (length frame)) (content-never (segOf form) (mostOf form) frame seen)
+found-never Unknown form frame = then-never 23 (shapeVerdict form (length frame)) (NotDone FormatError) (shape-never form (length frame)) (λ e. omega arith)
+
+pub read-not-short : (form : Form) (frame : List ℕ) → readNumber (readOf form frame) ≢ 23
+read-not-short form frame e =
+    found-never (firstNamed kinds (getD frame 0 0)) form frame (sym (frame-says form frame (readOf form frame) refl .1 .number) ∙ e)

@@ -8,8 +8,7 @@ use Prim.Native.Nat.{ℕ, zero, suc, _^_, _<_}
 use lib.Dec.{ltb, eqb}
 use Rattle.frame_fields.specs.Rows.{unpack, numberIn}
 use Rattle.frame_fields.specs.Layouts.{Field, fixed, free, lv, fields, widths, headerNumber, freeValues}
-use Rattle.frame_form.specs.declared.Form.{Form}
-use Rattle.frame_form.specs.Forms.{segOf}
+use Rattle.frame_form.specs.Forms.{longSegment}
 use Rattle.frame_form.specs.Segments.{lastUsed}
 use Rattle.frame_codec.specs.declared.Header.{Header}
 use Rattle.frame_codec.specs.declared.SeenHeader.{SeenHeader}
@@ -52,10 +51,11 @@ headerOf p u = headerNumber (layoutOf (kindOf p)) u (valuesOf p)
 abbrev pub packetAt : Kind → ℕ → Packet
 packetAt k h = packetOf k (freeValues (fields (layoutOf k)) (unpack (widths (fields (layoutOf k))) h))
 
--- the header of a packet with `user` bytes of user data, as `frame_codec` takes it
-abbrev pub wholeHeader : Form → Packet → ℕ → Header
-wholeHeader form p user =
-    record { fits = fits p user; size = layoutOf (kindOf p) .size; number = headerOf p (lastUsed (segOf form) (lengthOf p user)) }
+-- the header of a packet with `user` bytes of user data, as `frame_codec` takes it: that of a long
+-- form, since no other is written
+abbrev pub longHeader : Packet → ℕ → Header
+longHeader p user =
+    record { fits = fits p user; size = layoutOf (kindOf p) .size; number = headerOf p (lastUsed longSegment (lengthOf p user)) }
 
 -- h is the header of a frame read as kind k, as one number, and s is what `frame_codec` needs to
 -- know of that header

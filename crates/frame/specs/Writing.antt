@@ -1,7 +1,7 @@
 -- Writing a frame of any kind: document 01, "Forms and frames": "Writing checks 1, 13, 5, and bytes
--- beyond the frame keep what they held." `writeOf` is what a writer answers, `writeOutput` what the
--- lent output holds afterwards. `user` is the user data or its length, `room` the length of the
--- output.
+-- beyond the frame keep what they held", with 23 after 1 (document 02, Q-14). `writeOf` is what a
+-- writer answers, `writeOutput` what the lent output holds afterwards. `user` is the user data or
+-- its length, `room` the length of the output.
 -- Assumes nothing.
 use mathlib.Core.Bool.{Bool, _&&_, _||_}
 use mathlib.Core.List.{List}
@@ -28,13 +28,13 @@ lengthOf p user = layoutOf (kindOf p) .size + user
 unfoldable pub fits : Packet → ℕ → Bool
 fits p user = within (fields (layoutOf (kindOf p))) (valuesOf p) && (hasLv (fields (layoutOf (kindOf p))) || eqb user 0)
 
--- the bytes of the frame: the header with LV, which is the number of bytes used in the last
--- segment, the user data, and zero bytes to whole segments
+-- the bytes of the frame, in any form: the header with LV, which is the number of bytes used in the
+-- last segment, the user data, and zero bytes to whole segments
 unfoldable pub frameOf : Form → Packet → List ℕ → List ℕ
 frameOf form p user =
     framed (segOf form) (header (layoutOf (kindOf p)) (lastUsed (segOf form) (lengthOf p (length user))) (valuesOf p)) user
 
--- the checks, in the order 1, 13, 5
+-- the checks, in the order 1, 23, 13, 5
 abbrev pub frameVerdict : Form → Packet → ℕ → ℕ → Verdict
 frameVerdict form p user room = writeVerdict form (fits p user) (lengthOf p user) room
 

@@ -11,7 +11,7 @@ ghost use Rattle.frame_codec.specs.Writing.{writtenNumber, writtenBytes};
 ghost use Rattle.frame_codec.specs.Reading.{shapeVerdict};
 ghost use Rattle.little.specs.Little.{flag};
 ghost use Rattle.frame.specs.Packets.{kinds, asData, snOf};
-ghost use Rattle.frame.specs.Parts.{FitsTested, headerOf, wholeHeader, packetAt, HeaderIn};
+ghost use Rattle.frame.specs.Parts.{FitsTested, headerOf, longHeader, packetAt, HeaderIn};
 ghost use Rattle.frame.specs.Writing.{lengthOf, frameVerdict, writeOf, writeOutput};
 ghost use Rattle.frame.specs.Reading.{readNumber, firstNamed, readAs, readOf, ReadSays, partOf};
 use frame_codec::Extent;
@@ -160,12 +160,13 @@ impl Data {
         h * 16 + lv
     }
 
-    // The header of a frame with `user` bytes of user data, and whether every value fits its field.
-    fn whole_header(self, form: Form, user: usize) -> Header
+    // The header of a frame with `user` bytes of user data, in a long form, and whether every value
+    // fits its field.
+    fn whole_header(self, user: usize) -> Header
         requires { ⌜ user < 2 ^ 63 ⌝ }
-        ensures { λ r. ⌜ r ≡ wholeHeader form (Packet.Data self) user ⌝ }
+        ensures { λ r. ⌜ r ≡ longHeader (Packet.Data self) user ⌝ }
     {
-        let lv = form.last_used(3 + user);
+        let lv = Form::long_last_used(3 + user);
         Header {
             fits: self.fits(),
             size: 3,
@@ -213,12 +214,13 @@ impl ClearRequest {
         h * 16 + lv
     }
 
-    // The header of a frame with `user` bytes of user data, and whether every value fits its field.
-    fn whole_header(self, form: Form, user: usize) -> Header
+    // The header of a frame with `user` bytes of user data, in a long form, and whether every value
+    // fits its field.
+    fn whole_header(self, user: usize) -> Header
         requires { ⌜ user < 2 ^ 63 ⌝ }
-        ensures { λ r. ⌜ r ≡ wholeHeader form (Packet.ClearRequest self) user ⌝ }
+        ensures { λ r. ⌜ r ≡ longHeader (Packet.ClearRequest self) user ⌝ }
     {
-        let lv = form.last_used(7 + user);
+        let lv = Form::long_last_used(7 + user);
         Header {
             fits: self.fits(),
             size: 7,
@@ -266,7 +268,7 @@ impl ClearConfirmation {
     // The header of a frame, the same in every form, and whether every value fits its field. User
     // data does not fit: a CLEAR CONFIRMATION has no LV, so that it could not be read back.
     fn whole_header(self, user: usize) -> Header
-        ensures { λ r. ⌜ r ≡ wholeHeader Form.ShortUplink (Packet.ClearConfirmation self) user ⌝ }
+        ensures { λ r. ⌜ r ≡ longHeader (Packet.ClearConfirmation self) user ⌝ }
     {
         Header {
             fits: self.fits() & (user == 0),
@@ -334,11 +336,11 @@ pub fn write_data(form: Form, packet: Data, user: &[u8], out: &mut [u8]) -> Writ
     ensures number { λ r. ⌜ writtenNumber r ≡ verdictNumber (frameVerdict form (Packet.Data packet) (length (now (user .entry))) (length (now (out .entry)))) ⌝ }
     ensures value { λ r. ⌜ writtenBytes r ≡ valueBy (frameVerdict form (Packet.Data packet) (length (now (user .entry))) (length (now (out .entry)))) (frameLength (segOf form) (lengthOf (Packet.Data packet) (length (now (user .entry))))) ⌝ }
 {
-    frame_codec::put(form, packet.whole_header(form, user.len()), user, out)
+    frame_codec::put(form, packet.whole_header(user.len()), user, out)
 }
 
 // Writes a packet and its user data as one frame to the front of `out`, and answers the frame's
-// length. Checks 1, 13, 5; a refusal writes nothing, and bytes beyond the frame keep what they
+// length. Checks 1, 23, 13, 5; a refusal writes nothing, and bytes beyond the frame keep what they
 // held. Each kind has a call of its own, so that a compiler knows the header's length.
 pub fn write_frame(form: Form, packet: Packet, user: &[u8], out: &mut [u8]) -> Written
     ensures { λ r. ⌜ r ≡ writeOf form packet (length (now (user .entry))) (length (now (out .entry))) ⌝ }
@@ -347,13 +349,8 @@ pub fn write_frame(form: Form, packet: Packet, user: &[u8], out: &mut [u8]) -> W
     ensures value { λ r. ⌜ writtenBytes r ≡ valueBy (frameVerdict form packet (length (now (user .entry))) (length (now (out .entry)))) (frameLength (segOf form) (lengthOf packet (length (now (user .entry))))) ⌝ }
 {
     match packet {
-        Packet::Data(d) => frame_codec::put(form, d.whole_header(form, user.len()), user, out),
-        Packet::ClearRequest(d) => frame_codec::put(
-            form,
-            d.whole_header(form, user.len()),
-            user,
-            out,
-        ),
+        Packet::Data(d) => frame_codec::put(form, d.whole_header(user.len()), user, out),
+        Packet::ClearRequest(d) => frame_codec::put(form, d.whole_header(user.len()), user, out),
         Packet::ClearConfirmation(d) => frame_codec::put(
             form,
             d.whole_header(user.len()),

@@ -59,7 +59,7 @@ unusedZero k values = allZero (drop (valueCount k) values)
 
 -- ---- writing: 1, "an argument exceeds its field", if the packet is not ten bytes long, for an
 -- unknown kind, a flag over 1 or a byte other than 0 that the kind has no use for; then as `frame`
--- writes: 1, 13, 5.
+-- writes: 1, 23, 13, 5.
 -- `user` is the user data or its length, `room` the length of the lent output
 
 -- a writer's answer as one number: the refusal number plus 256 times the bytes written, which are 0

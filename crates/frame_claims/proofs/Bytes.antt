@@ -17,6 +17,7 @@ use Rattle.refusal.proofs.Numbers.{number-range}
 use Rattle.lists.specs.Lists.{over}
 use Rattle.frame_fields.specs.Rows.{AreBytes}
 use Rattle.frame_form.specs.Forms.{formAt}
+use Rattle.frame_form.proofs.Forms.{long-at}
 use Rattle.frame_codec.specs.declared.Written.{Written}
 use Rattle.frame_codec.specs.declared.Written.the-variants.{Done as WrittenDone, Refused as NotWritten}
 use Rattle.frame.specs.declared.Kind.{Kind}
@@ -27,14 +28,16 @@ use Rattle.frame.specs.declared.Found.the-variants.{Known, Unknown}
 use Rattle.frame.specs.declared.Read.{Read}
 use Rattle.frame.specs.declared.Read.the-variants.{Packet as PacketRead, Refused as NotRead}
 use Rattle.frame.specs.Packets.{kindOf, packetOf}
-use Rattle.frame.specs.Writing.{writeOf, writeOutput}
+use Rattle.frame.specs.Writing.{frameOf, writeOf, writeOutput}
 use Rattle.frame.specs.Reading.{readOf, partOf, placeOf}
 use Rattle.frame_bytes.specs.Stored.{packetBytes, kindAt, flagsFit, unusedZero, writtenAnswer, writeAnswerBy, writeAnswer, writeBytes, readAnswerBy, readAnswer, readBytes}
 use Rattle.frame_bytes.proofs.Answers.{known-code, known-bytes, ten-code, ten-bytes, done-read}
 use Rattle.frame_bytes.proofs.Sizes.{read-few}
 use Rattle.frame_bytes.proofs.Claims.{round-trips}
-use Rattle.frame_claims.specs.Bytes.{frameWritten, userNamed, BytesRead, BytesWritten, ReadBackOfBytes}
-use Rattle.frame_claims.proofs.ReadBack.{part-length, read-back}
+use Rattle.frame_claims.specs.ByLayout.{CanHold}
+use Rattle.frame_claims.specs.Bytes.{frameWritten, userNamed, BytesRead, BytesWritten, BytesAreFrame, FrameIsBytes, ReadBackOfBytes}
+use Rattle.frame_claims.proofs.ByLayout.{part-length, by-layout}
+use Rattle.frame_claims.proofs.ReadBack.{read-back}
 
 -- ---- a call of `write` whose answer is done
 
@@ -50,7 +53,7 @@ module _ (form : ℕ) (p : Packet) where
   fit : (flagsFit (kindOf p) (drop 1 (packetBytes p)) && unusedZero (kindOf p) (drop 1 (packetBytes p))) ≡ true
   fit = let b = round-trips .packet-back p in ap₂ (λ (x y : Bool). x && y) (b .flags) (b .unused)
 
-  answer-of : (user room : ℕ) → writeAnswer form (packetBytes p) user room ≡ writtenAnswer (writeOf (formAt form) p user room)
+  pub answer-of : (user room : ℕ) → writeAnswer form (packetBytes p) user room ≡ writtenAnswer (writeOf (formAt form) p user room)
   answer-of user room =
       let b = round-trips .packet-back p in
       sym (known-code (kindOf p) form (drop 1 (packetBytes p)) (formAt form) p refl (sym (b .back)) user room _ fit refl
@@ -146,16 +149,25 @@ written-is-read form packet user out places h room =
           ∙ ap (λ (x : List ℕ). partOf x (placeOf (w .p) (length user))) wrote-it ∙ back .data-kept;
     }
 
-read-is-written : (form : ℕ) (frame places out : List ℕ) → AreBytes frame → readAnswer form frame (length places) % 256 ≡ 0
+-- what a call of `read` gave: the ten bytes of the packet that it read, and its user data
+module _ (form : ℕ) (frame places : List ℕ) (r : WasRead form frame (length places)) where
+  ten-read : take 10 (readBytes form frame places) ≡ packetBytes (r .p)
+  ten-read =
+      ap (take 10) (sym (done-read form frame places (r .p) (r .place) (sym (r .reads)) (r .room) .1))
+      ∙ take-at (packetBytes (r .p)) (drop (length (packetBytes (r .p))) places) 10 (round-trips .packet-back (r .p) .ten)
+
+  user-read : userNamed (readAnswer form frame (length places)) frame ≡ partOf frame (r .place)
+  user-read =
+      named (readAnswer form frame (length places)) frame (r .place) (done-read form frame places (r .p) (r .place) (sym (r .reads)) (r .room) .0)
+      (omega (arith, read-few (formAt form) frame (r .p) (r .place) (r .reads)))
+
+read-is-written : (form : ℕ) (frame places out : List ℕ) → 1 ≤ form → AreBytes frame → readAnswer form frame (length places) % 256 ≡ 0
     → length frame ≤ length out → BytesWritten form frame places out
-read-is-written form frame places out bytes h room =
+read-is-written form frame places out long bytes h room =
     let r = was-read form frame (length places) h in
-    let done = done-read form frame places (r .p) (r .place) (sym (r .reads)) (r .room) in
-    let back = read-back .read-is-written (formAt form) frame (r .p) (r .place) out bytes (r .reads) room in
-    let ten : take 10 (readBytes form frame places) ≡ packetBytes (r .p) =
-    ap (take 10) (sym (done .1)) ∙ take-at (packetBytes (r .p)) (drop (length (packetBytes (r .p))) places) 10 (round-trips .packet-back (r .p) .ten) in
-    let user : userNamed (readAnswer form frame (length places)) frame ≡ partOf frame (r .place) =
-    named (readAnswer form frame (length places)) frame (r .place) (done .0) (omega (arith, read-few (formAt form) frame (r .p) (r .place) (r .reads))) in
+    let back = read-back .read-is-written (formAt form) frame (r .p) (r .place) out (long-at form long) bytes (r .reads) room in
+    let ten = ten-read form frame places r in
+    let user = user-read form frame places r in
     record {
       done =
           ap₂ (λ (x y : List ℕ). writeAnswer form x (length y) (length out)) ten user
@@ -166,5 +178,34 @@ read-is-written form frame places out bytes h room =
       bytes = ap₂ (λ (x y : List ℕ). writeBytes form x y out) ten user ∙ output-of form (r .p) (partOf frame (r .place)) out ∙ back .bytes;
     }
 
+-- ---- by the layout
+
+read-is-frame : (form : ℕ) (frame places : List ℕ) → AreBytes frame → readAnswer form frame (length places) % 256 ≡ 0 → BytesAreFrame form frame places
+read-is-frame form frame places bytes h =
+    let r = was-read form frame (length places) h in
+    record {
+      packet = r .p;
+      ten = ten-read form frame places r;
+      same = by-layout .read-is-frame (formAt form) frame (r .p) (r .place) bytes (r .reads) .same ∙ ap (frameOf (formAt form) (r .p)) (sym (user-read form frame places r));
+    }
+
+frame-is-read : (form : ℕ) (p : Packet) (user places : List ℕ) → CanHold (formAt form) p (length user) → 10 ≤ length places → FrameIsBytes form p user places
+frame-is-read form p user places holds room =
+    let F = frameOf (formAt form) p user in
+    let place = placeOf p (length user) in
+    let read = by-layout .frame-is-read (formAt form) p user holds in
+    let small = read-few (formAt form) F p place (read .fields) in
+    let done = done-read form F places p place (sym (read .fields)) room in
+    record {
+      done = omega (arith, done .0);
+      packet-back = sym (done .1);
+      user-back = named (readAnswer form F (length places)) F place (done .0) (omega (arith, small)) ∙ read .data-kept;
+    }
+
 pub read-back-of-bytes : ReadBackOfBytes
-read-back-of-bytes = record { written-is-read = written-is-read; read-is-written = read-is-written }
+read-back-of-bytes = record {
+  read-is-frame = read-is-frame;
+  frame-is-read = frame-is-read;
+  written-is-read = written-is-read;
+  read-is-written = read-is-written;
+}

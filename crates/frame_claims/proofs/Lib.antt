@@ -1,4 +1,6 @@
 -- What is proved of frames written and read.
+pub mod ByLayout
 pub mod ReadBack
 pub mod Refusing
 pub mod Bytes
+pub mod Short

@@ -1,7 +1,8 @@
 -- Demand 2 of the calls on lent bytes, `write` and `read` of `frame_bytes`: "A frame written is
 -- read back to the same fields, and a frame read is written back to the same bytes." A form is a
 -- number, a packet is ten bytes, and what a call did is read off the number that it returns and the
--- lent bytes. proofs/Bytes.antt proves it (`read-back-of-bytes`).
+-- lent bytes. Reading is claimed for every form, what is written for the long ones, with the
+-- numbers 1 to 17 (document 02, Q-14). proofs/Bytes.antt proves it (`read-back-of-bytes`).
 -- Assumes nothing.
 use mathlib.Core.Path.{_≡_}
 use mathlib.Core.List.{List}
@@ -9,7 +10,11 @@ use Prim.Native.Nat.{ℕ, _*_, _/_, _%_, _≤_}
 use lib.ListN.{length, take, drop}
 use Rattle.lists.specs.Lists.{over}
 use Rattle.frame_fields.specs.Rows.{AreBytes}
-use Rattle.frame_bytes.specs.Stored.{writeAnswer, writeBytes, readAnswer, readBytes}
+use Rattle.frame_form.specs.Forms.{formAt}
+use Rattle.frame.specs.declared.Packet.{Packet}
+use Rattle.frame.specs.Writing.{frameOf}
+use Rattle.frame_bytes.specs.Stored.{packetBytes, writeAnswer, writeBytes, readAnswer, readBytes}
+use Rattle.frame_claims.specs.ByLayout.{CanHold}
 
 -- the frame that `write` left at the front of the lent output: its length is in the bits of the
 -- answer from 8 up
@@ -38,10 +43,27 @@ pub record BytesWritten (form : ℕ) (frame places out : List ℕ) : Type 0 wher
   -- the output holds the same frame, and the bytes beyond it are unchanged
   pub bytes : writeBytes form (take 10 (readBytes form frame places)) (userNamed (readAnswer form frame (length places)) frame) out ≡ over frame out
 
--- every frame that `write` has written, if there are ten places to read it into; and every frame
--- that `read` accepts, if the output has room for it
+-- a frame was read into `places`: the ten bytes are those of a packet, and the frame is the one of
+-- this packet and the user data, by the layout
+pub record BytesAreFrame (form : ℕ) (frame places : List ℕ) : Type 0 where
+  pub packet : Packet
+  pub ten : take 10 (readBytes form frame places) ≡ packetBytes packet
+  pub same : frame ≡ frameOf (formAt form) packet (userNamed (readAnswer form frame (length places)) frame)
+
+-- the frame of packet p and this user data, by the layout, is read into `places`
+pub record FrameIsBytes (form : ℕ) (p : Packet) (user places : List ℕ) : Type 0 where
+  pub done : readAnswer form (frameOf (formAt form) p user) (length places) % 256 ≡ 0
+  pub packet-back : readBytes form (frameOf (formAt form) p user) places ≡ over (packetBytes p) places
+  pub user-back : userNamed (readAnswer form (frameOf (formAt form) p user) (length places)) (frameOf (formAt form) p user) ≡ user
+
 pub record ReadBackOfBytes : Type 0 where
+  -- by the layout, in every form: every frame that `read` accepts; and the frame of every packet
+  -- that a frame of the form can hold, if there are ten places to read it into
+  pub read-is-frame : (form : ℕ) (frame places : List ℕ) → AreBytes frame → readAnswer form frame (length places) % 256 ≡ 0 → BytesAreFrame form frame places
+  pub frame-is-read : (form : ℕ) (p : Packet) (user places : List ℕ) → CanHold (formAt form) p (length user) → 10 ≤ length places → FrameIsBytes form p user places
+  -- every frame that `write` has written, if there are ten places to read it into; and every frame
+  -- of a long form that `read` accepts, if the output has room for it
   pub written-is-read : (form : ℕ) (packet user out places : List ℕ) → writeAnswer form packet (length user) (length out) % 256 ≡ 0
       → 10 ≤ length places → BytesRead form packet user out places
-  pub read-is-written : (form : ℕ) (frame places out : List ℕ) → AreBytes frame → readAnswer form frame (length places) % 256 ≡ 0
+  pub read-is-written : (form : ℕ) (frame places out : List ℕ) → 1 ≤ form → AreBytes frame → readAnswer form frame (length places) % 256 ≡ 0
       → length frame ≤ length out → BytesWritten form frame places out

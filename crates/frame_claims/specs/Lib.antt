@@ -1,4 +1,6 @@
 -- The claims about frames written and read.
+pub mod ByLayout
 pub mod ReadBack
+pub mod Short
 pub mod Refusing
 pub mod Bytes

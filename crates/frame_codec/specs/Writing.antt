@@ -1,12 +1,13 @@
 -- Writing a frame: document 01, "Forms and frames": "Writing checks 1, 13, 5, and bytes beyond the
--- frame keep what they held."
+-- frame keep what they held"; and document 02, Q-14: "23 for writing or cutting in the short form,
+-- after 1 and before all others".
 -- Assumes nothing.
 use mathlib.Core.Bool.{Bool}
 use mathlib.Core.List.{List}
 use Prim.Native.Nat.{ℕ, _+_}
 use lib.Dec.{leb}
 use lib.ListN.{length}
-use Rattle.refusal.specs.declared.Refusal.the-variants.{OutOfRange, PacketTooLong, OutputTooShort}
+use Rattle.refusal.specs.declared.Refusal.the-variants.{OutOfRange, PacketTooLong, OutputTooShort, ShortForm}
 use Rattle.refusal.specs.declared.Verdict.{Verdict}
 use Rattle.refusal.specs.declared.Verdict.the-variants.{Done, Refused}
 use Rattle.refusal.specs.Numbers.{numberOf, check}
@@ -16,7 +17,7 @@ use Rattle.frame_form.specs.declared.Form.{Form}
 use Rattle.frame_codec.specs.declared.Header.{Header}
 use Rattle.frame_codec.specs.declared.Written.{Written}
 use Rattle.frame_codec.specs.declared.Written.the-variants.{Done as WrittenDone, Refused as NotWritten}
-use Rattle.frame_form.specs.Forms.{segOf, mostOf, formValid}
+use Rattle.frame_form.specs.Forms.{segOf, mostOf, formValid, isLong}
 use Rattle.frame_form.specs.Segments.{frameLength}
 use Rattle.frame_codec.specs.Frames.{framed}
 
@@ -30,16 +31,17 @@ abbrev pub writtenBytes : Written → ℕ
 writtenBytes (WrittenDone n) = n
 writtenBytes (NotWritten why) = 0
 
--- the checks of writing a packet of `n` bytes into `room` bytes, in the order 1, 13, 5: the form is
--- valid, every value `fits` its field, the packet is no longer than the form's largest, and its
--- frame has room
+-- the checks of writing a packet of `n` bytes into `room` bytes, in the order 1, 23, 13, 5: the
+-- form is valid, every value `fits` its field, the form is a long one, the packet is no longer than
+-- the form's largest, and its frame has room
 unfoldable pub writeVerdict : Form → Bool → ℕ → ℕ → Verdict
 writeVerdict form fits n room =
     check (formValid form) OutOfRange
     (check fits OutOfRange
+    (check (isLong form) ShortForm
     (check (leb n (mostOf form)) PacketTooLong
     (check (leb (frameLength (segOf form) n) room) OutputTooShort
-    Done)))
+    Done))))
 
 -- the answer of writing, from the verdict of the checks and the length of the frame
 abbrev pub writtenBy : Verdict → ℕ → Written

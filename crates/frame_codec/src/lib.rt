@@ -9,7 +9,7 @@ ghost use Prim.Native.Nat.{_+_, _-_, _%_, _≤_};
 ghost use lib.ListN.{length, take, drop, replicate};
 ghost use lib.Seq.{paste};
 ghost use Rattle.refusal.specs.Numbers.{verdictNumber, valueBy};
-ghost use Rattle.frame_form.specs.Forms.{segOf, mostOf};
+ghost use Rattle.frame_form.specs.Forms.{longSegment, segOf, mostOf};
 ghost use Rattle.frame_form.specs.Segments.{padding, frameLength};
 ghost use Rattle.frame_fields.specs.Rows.{bytesOf};
 ghost use Rattle.frame_codec.specs.Frames.{allZero};
@@ -97,52 +97,52 @@ fn clear(out: &mut [u8], at: usize, n: usize)
 }
 
 // Writes the padding: `pad` zero bytes after the first `n` bytes of `out`. If there is any, it
-// clears the whole last segment, because a segment has one of two known sizes and a compiler clears
-// a known number of bytes with two stores. The segment's bytes before the padding are written
+// clears the whole last segment, because what is written has segments of 10 and a compiler clears a
+// known number of bytes with two stores. The segment's bytes before the padding are written
 // afterwards.
-fn clear_padding(form: Form, out: &mut [u8], n: usize, pad: usize)
-    requires { ⌜ (pad ≤ segOf form) × (1 ≤ pad → segOf form ≤ n + pad) × (n + pad ≤ length (now out)) ⌝ }
+fn clear_padding(out: &mut [u8], n: usize, pad: usize)
+    requires { ⌜ (pad ≤ longSegment) × (1 ≤ pad → longSegment ≤ n + pad) × (n + pad ≤ length (now out)) ⌝ }
     ensures { λ _. ⌜ drop n (now (out .exit)) ≡ replicate pad 0 ++ drop (n + pad) (now (out .entry)) ⌝ }
 {
     if pad == 0 {
         return;
     }
     let end = n + pad;
-    if form.segment() == 7 {
-        clear(out, end - 7, 7);
-    } else {
-        clear(out, end - 10, 10);
-    }
+    clear(out, end - 10, 10);
 }
 
 // Writes the header (`size` bytes, given as `number`), the user data and `pad` zero bytes to the
 // front of `out`.
-fn put_frame(form: Form, out: &mut [u8], size: usize, number: u64, user: &[u8], pad: usize)
-    requires { ⌜ (pad ≤ segOf form) × (1 ≤ pad → segOf form ≤ size + length (now user) + pad) × (size + length (now user) + pad ≤ length (now out)) ⌝ }
+fn put_frame(out: &mut [u8], size: usize, number: u64, user: &[u8], pad: usize)
+    requires { ⌜ (pad ≤ longSegment) × (1 ≤ pad → longSegment ≤ size + length (now user) + pad) × (size + length (now user) + pad ≤ length (now out)) ⌝ }
     ensures { λ _. ⌜ now (out .exit) ≡ (bytesOf size number ++ (now (user .entry) ++ replicate pad 0))
         ++ drop (size + length (now (user .entry)) + pad) (now (out .entry)) ⌝ }
 {
-    clear_padding(form, out, size + user.len(), pad);
+    clear_padding(out, size + user.len(), pad);
     put_number(out, size, number);
     let end = size + user.len();
     lists::copy_in(&mut out[size..end], user);
 }
 
 // Whether a packet of `n` bytes and its padding may be written into `room` bytes, checked in the
-// order 1, 13, 5.
+// order 1, 23, 13, 5.
 fn check_put(form: Form, fits: bool, n: usize, pad: usize, room: usize) -> Verdict
-    requires { ⌜ pad ≡ padding (segOf form) n ⌝ }
+    requires { ⌜ pad ≡ padding longSegment n ⌝ }
     ensures { λ r. ⌜ r ≡ writeVerdict form fits n room ⌝ }
 {
     if form.is_valid() && fits {
-        if n <= form.most() {
-            if n + pad <= room {
-                Verdict::Done
+        if form.is_long() {
+            if n <= form.most() {
+                if n + pad <= room {
+                    Verdict::Done
+                } else {
+                    Verdict::Refused(Refusal::OutputTooShort)
+                }
             } else {
-                Verdict::Refused(Refusal::OutputTooShort)
+                Verdict::Refused(Refusal::PacketTooLong)
             }
         } else {
-            Verdict::Refused(Refusal::PacketTooLong)
+            Verdict::Refused(Refusal::ShortForm)
         }
     } else {
         Verdict::Refused(Refusal::OutOfRange)
@@ -150,7 +150,7 @@ fn check_put(form: Form, fits: bool, n: usize, pad: usize, room: usize) -> Verdi
 }
 
 // Writes a frame to the front of `out`: the header, the user data and zero bytes up to whole
-// segments. Checks 1, 13, 5; a refusal writes nothing. For `frame`, which makes the header.
+// segments. Checks 1, 23, 13, 5; a refusal writes nothing. For `frame`, which makes the header.
 pub fn put(form: Form, head: Header, user: &[u8], out: &mut [u8]) -> Written
     ensures { λ r. ⌜ r ≡ putOf form head (length (now (user .entry))) (length (now (out .entry))) ⌝ }
     ensures { λ _. ⌜ now (out .exit) ≡ putOutput form head (now (user .entry)) (now (out .entry)) ⌝ }
@@ -159,11 +159,11 @@ pub fn put(form: Form, head: Header, user: &[u8], out: &mut [u8]) -> Written
 {
     let size = head.size as usize;
     let n = size + user.len();
-    let pad = form.padding(n);
+    let pad = Form::long_padding(n);
     let verdict = check_put(form, head.fits, n, pad, out.len());
     match verdict {
         Verdict::Done => {
-            put_frame(form, out, size, head.number, user, pad);
+            put_frame(out, size, head.number, user, pad);
             Written::Done(n + pad)
         }
         Verdict::Refused(why) => Written::Refused(why),

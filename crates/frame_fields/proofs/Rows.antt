@@ -6,7 +6,7 @@ use Prim.Native.Nat.{ℕ, zero, suc, _+_, _*_, _/_, _%_, _^_, _<_, _≤_}
 use native.Mathlib.Nat.{add-mul, mul-assoc, add-assoc, zero-mul, zero-add, mul-one, mod-lt, mod-eq-of-lt, add-zero}
 use native.Mathlib.Omega.{arith}
 use lib.Arith.{digits-lt}
-use lib.ListN.{length, take, length-replicate}
+use lib.ListN.{length, take, replicate, length-replicate}
 use lib.Pow.{pow-pos, pow-add, mod-pow-add, high, low}
 use Rattle.frame_fields.specs.Rows.{total, packAfter, pack, unpack, InRange, eights, bytesOf, AreBytes}
 use Rattle.frame_fields.specs.Law.{RowLaw}
@@ -88,6 +88,24 @@ pub bytes-range : (k : ℕ) (bs : List ℕ) → k ≤ length bs → AreBytes bs 
 bytes-range zero bs h b = tt
 bytes-range (suc k) [] h b = absurd (omega arith)
 bytes-range (suc k) (x ∷ xs) h b = (b .0, bytes-range k xs (omega arith) (b .1))
+
+-- the bytes of a number are bytes; so are zeros, and two lists of bytes one after the other
+range-are : (k : ℕ) (bs : List ℕ) → InRange (eights k) bs → AreBytes bs
+range-are zero [] r = tt
+range-are zero (b ∷ bs) r = absurd r
+range-are (suc k) [] r = absurd r
+range-are (suc k) (b ∷ bs) r = (r .0, range-are k bs (r .1))
+
+pub bytes-are : (k n : ℕ) → AreBytes (bytesOf k n)
+bytes-are k n = range-are k (bytesOf k n) (unpack-range (eights k) n)
+
+pub zeros-are : (n : ℕ) → AreBytes (replicate n 0)
+zeros-are zero = tt
+zeros-are (suc n) = (omega arith, zeros-are n)
+
+pub both-are : (bs cs : List ℕ) → AreBytes bs → AreBytes cs → AreBytes (bs ++ cs)
+both-are [] cs b c = c
+both-are (x ∷ bs) cs b c = (b .0, both-are bs cs (b .1) c)
 
 -- ---- one row after another
 

@@ -1,16 +1,16 @@
 -- Facts about the segments and the largest packets of the forms, proved form by form.
 -- Assumes nothing.
-use mathlib.Core.Path.{_≡_, refl}
-use mathlib.Core.Bool.{true}
+use mathlib.Core.Path.{_≡_, refl, sym, ap}
+use mathlib.Core.Bool.{Bool, true, false, true≢false}
 use Prim.Native.Nat.{ℕ, _+_, _-_, _*_, _/_, _%_, _<_, _≤_}
 use native.Mathlib.Nat.{mod-mod-of-dvd, dvd-of-mod-eq-zero}
 use native.Mathlib.Omega.{arith}
-use lib.Dec.{leb}
-use borrow.Author.Tests.{leb-true, eq-eqb, ne-eqb}
+use lib.Dec.{leb, eqb}
+use borrow.Author.Tests.{leb-true, eq-eqb, ne-eqb, eqb-true, eqb-false}
 use Rattle.refusal.proofs.Checks.{both-true}
 use Rattle.frame_form.specs.declared.Form.{Form}
 use Rattle.frame_form.specs.declared.Form.the-variants.{ShortUplink, LongUplink, LongDownlink}
-use Rattle.frame_form.specs.Forms.{segOf, mostOf, formValid, formAt}
+use Rattle.frame_form.specs.Forms.{longSegment, segOf, mostOf, formValid, isLong, formAt}
 
 -- every segment holds a header
 pub segment-seven : (form : Form) → 7 ≤ segOf form
@@ -27,11 +27,11 @@ segment-few ShortUplink = omega arith
 segment-few LongUplink = omega arith
 segment-few (LongDownlink n) = omega arith
 
--- a segment that does not have 7 bytes has 10
-pub segment-long : (form : Form) → (segOf form ≡ 7 → ⊥) → segOf form ≡ 10
-segment-long ShortUplink n = absurd (n refl)
-segment-long LongUplink n = refl
-segment-long (LongDownlink k) n = refl
+-- the segments of the long forms have one size
+pub long-segment : (form : Form) → isLong form ≡ true → segOf form ≡ longSegment
+long-segment ShortUplink l = absurd (true≢false (sym l))
+long-segment LongUplink l = refl
+long-segment (LongDownlink n) l = refl
 
 -- the largest packet of a valid form has 10 to 160 bytes
 pub most-range : (form : Form) → formValid form ≡ true → (10 ≤ mostOf form) × (mostOf form ≤ 160)
@@ -77,3 +77,11 @@ at-long n z e = rw (ne-eqb n 0 z, eq-eqb n 17 e)
 pub at-downlink : (n : ℕ) → (n ≡ 0 → ⊥) → (n ≡ 17 → ⊥) → formAt n ≡ LongDownlink n
 unfolding formAt
 at-downlink n z o = rw (ne-eqb n 0 z, ne-eqb n 17 o)
+
+-- every number but that of the short uplink gives a long form
+pub long-at : (n : ℕ) → 1 ≤ n → isLong (formAt n) ≡ true
+long-at n more = go (eqb n 17) refl
+  where
+    go : (b : Bool) → eqb n 17 ≡ b → isLong (formAt n) ≡ true
+    go true e = ap isLong (at-long n (λ z. omega arith) (eqb-true n 17 e))
+    go false e = ap isLong (at-downlink n (λ z. omega arith) (eqb-false n 17 e))

@@ -9,10 +9,13 @@ use Rattle.frame_form.specs.declared.Form.the-variants.{ShortUplink, Lon
 
 -- the size of a segment: "Short uplink: segments of 7 bytes .. Long uplink: segments of 10 .. Long
 -- downlink with n segments: segments of 10"
+abbrev pub longSegment : ℕ
+longSegment = 10
+
 abbrev pub segOf : Form → ℕ
 segOf ShortUplink = 7
-segOf LongUplink = 10
-segOf (LongDownlink n) = 10
+segOf LongUplink = longSegment
+segOf (LongDownlink n) = longSegment
 
 -- the size of the largest packet: "packet at most 28 .. at most 152 .. at most 10n"
 abbrev pub mostOf : Form → ℕ
@@ -25,6 +28,13 @@ abbrev pub formValid : Form → Bool
 formValid ShortUplink = true
 formValid LongUplink = true
 formValid (LongDownlink n) = leb 1 n && leb n 16
+
+-- a long form: one in which frames are written and messages cut; for the short uplink, "23 for
+-- writing or cutting in the short form" (document 02, Q-14), "Reading, joining .. keep it"
+abbrev pub isLong : Form → Bool
+isLong ShortUplink = false
+isLong LongUplink = true
+isLong (LongDownlink n) = true
 
 -- the form with the number n, the one numbering that every call with a number for a form uses: 0 is
 -- the short uplink, 1 to 16 the long downlink with that many segments, 17 the long uplink; every

@@ -2,7 +2,7 @@
 // frames").
 ghost use mathlib.Core.Path.{_≡_};
 ghost use Prim.Native.Nat.{_+_, _/_, _≤_};
-ghost use Rattle.frame_form.specs.Forms.{segOf, mostOf, formValid, formAt};
+ghost use Rattle.frame_form.specs.Forms.{longSegment, segOf, mostOf, formValid, isLong, formAt};
 ghost use Rattle.frame_form.specs.Segments.{padding, lastUsed, wholeSegments};
 
 // The form of a frame: it gives the size of a segment and the size of the largest packet.
@@ -41,6 +41,17 @@ impl Form {
         }
     }
 
+    // Whether the form is a long one. Writing and cutting refuse the short one with 23.
+    pub fn is_long(self) -> bool
+        ensures { λ r. ⌜ r ≡ isLong self ⌝ }
+    {
+        match self {
+            Form::ShortUplink => false,
+            Form::LongUplink => true,
+            Form::LongDownlink(_n) => true,
+        }
+    }
+
     // The size of a segment in bytes.
     pub fn segment(self) -> usize
         ensures { λ r. ⌜ r ≡ segOf self ⌝ }
@@ -75,12 +86,11 @@ impl Form {
         }
     }
 
-    // The number of zero bytes that fill `n` bytes up to whole segments; for `frame_codec` and
-    // `message`. To save time it does not divide by the segment size: both sizes divide 70, so `n %
-    // 70` bytes need the same padding, and a number below 80 is divided by multiplying with the
-    // reciprocal. The steps are the same for every form, so a compiler can merge two calls with the
-    // same arguments.
-    pub fn padding(self, n: usize) -> usize
+    // The number of zero bytes that fill `n` bytes up to whole segments. To save time it does not
+    // divide by the segment size: both sizes divide 70, so `n % 70` bytes need the same padding,
+    // and a number below 80 is divided by multiplying with the reciprocal. The steps are the same
+    // for every form, so a compiler can merge two calls with the same arguments.
+    fn padding(self, n: usize) -> usize
         ensures { λ r. ⌜ r ≡ padding (segOf self) n ⌝ }
         ensures few { λ r. ⌜ r ≤ 9 ⌝ }
     {
@@ -90,18 +100,28 @@ impl Form {
         segments * segment - past
     }
 
-    // LV of a packet of `n` bytes: the number of bytes used in its last segment; for `frame`.
-    pub fn last_used(self, n: usize) -> usize
-        ensures { λ r. ⌜ r ≡ lastUsed (segOf self) n ⌝ }
-        ensures few { λ r. ⌜ (1 ≤ r) × (r ≤ 10) ⌝ }
-    {
-        self.segment() - self.padding(n)
-    }
-
     // Whether `len` bytes are a whole number of segments, at least one; for `frame_codec`.
     pub fn is_whole(self, len: usize) -> bool
         ensures { λ r. ⌜ r ≡ wholeSegments (segOf self) len ⌝ }
     {
         1 <= len && self.padding(len) == 0
+    }
+
+    // The number of zero bytes that fill `n` bytes up to whole segments of a long form; for
+    // `frame_codec` and `message`, which write in the long forms only.
+    pub fn long_padding(n: usize) -> usize
+        ensures { λ r. ⌜ r ≡ padding longSegment n ⌝ }
+        ensures few { λ r. ⌜ r ≤ 9 ⌝ }
+    {
+        (10 - n % 10) % 10
+    }
+
+    // LV of a packet of `n` bytes in a long form: the number of bytes used in its last segment; for
+    // `frame`.
+    pub fn long_last_used(n: usize) -> usize
+        ensures { λ r. ⌜ r ≡ lastUsed longSegment n ⌝ }
+        ensures few { λ r. ⌜ (1 ≤ r) × (r ≤ 10) ⌝ }
+    {
+        10 - Form::long_padding(n)
     }
 }

@@ -14,8 +14,9 @@ use Rattle.refusal.specs.declared.Verdict.the-variants.{Done}
 use Rattle.lists.specs.Frames.{bytesIn, lengthsOf}
 use Rattle.lists.specs.Lists.{over}
 use Rattle.frame_form.specs.declared.Form.{Form}
-use Rattle.frame_form.specs.Forms.{segOf, formValid}
+use Rattle.frame_form.specs.Forms.{formValid, isLong}
 use Rattle.frame_form.specs.Segments.{frameLength}
+use Rattle.frame_form.proofs.Forms.{long-segment}
 use Rattle.frame.specs.declared.Packet.{Packet}
 use Rattle.frame.specs.Packets.{kindOf, layoutOf}
 use Rattle.frame.specs.Writing.{fits, frameOf}
@@ -56,14 +57,15 @@ starts form s k₀ m o₀ l₀ room e =
     }
 
 -- a DATA packet may be written
-ready : (form : Form) (s : Start) (more : Bool) (q : Packet) (n : ℕ) (u : List ℕ) (p room i places : ℕ) → q ≡ dataOf s more → length u ≡ n → formValid form ≡ true → InRange s
-    → n ≤ shareOf form → p + length (frameOf form (dataOf s more) u) ≤ room → i < places → Ready form q n p room i places
-ready form s more q n u p room i places e en good numbers share inside place = record {
+ready : (form : Form) (s : Start) (more : Bool) (q : Packet) (n : ℕ) (u : List ℕ) (p room i places : ℕ) → q ≡ dataOf s more → length u ≡ n → formValid form ≡ true
+    → isLong form ≡ true → InRange s → n ≤ shareOf form → p + length (frameOf form (dataOf s more) u) ≤ room → i < places → Ready form q n p room i places
+ready form s more q n u p room i places e en good long numbers share inside place = record {
   good = good;
+  long = long;
   fit = ap (λ (x : Packet). fits x n) e ∙ fits-all s more n numbers;
   header = ap (λ (x : Packet). layoutOf (kindOf x) .size) e;
   share = share;
-  inside = subst (λ (x : ℕ). p + x ≤ room) (frame-length form (dataOf s more) u ∙ ap (λ (x : ℕ). frameLength (segOf form) (3 + x)) en) inside;
+  inside = subst (λ (x : ℕ). p + x ≤ room) (frame-length form (dataOf s more) u ∙ ap₂ (λ (seg x : ℕ). frameLength seg (3 + x)) (long-segment form long) en) inside;
   place = place;
 }
 
@@ -113,7 +115,7 @@ module _ (form : Form) (s₀ : Start) (k₀ : ℕ) (m o₀ l₀ : List ℕ) (roo
       let r = room-left (v .fs) _ _ _ o₀ l₀ o l p i (v .text) (f .rest) (room .bytes) (room .frames) in
       let len = share-length from (f .enough) in
       subst (λ (x : List ℕ). Ready form q (length x) p (length o) i (length l)) (sym (part-is from share es))
-      (ready form s true q (length u) u p (length o) i (length l) eq refl (room .good) (v .numbers) (omega (arith, len)) (r .0) (r .1))
+      (ready form s true q (length u) u p (length o) i (length l) eq refl (room .good) (room .long) (v .numbers) (omega (arith, len)) (r .0) (r .1))
 
   -- a full frame was written
   turns : (o l o1 l1 u : List ℕ) (s s1 : Start) (from p i share p1 : ℕ) (q : Packet) → share ≡ shareOf form → Cutting form s₀ k₀ m o₀ l₀ o l s from p i → i < k₀
@@ -160,7 +162,7 @@ module _ (form : Form) (s₀ : Start) (k₀ : ℕ) (m o₀ l₀ : List ℕ) (roo
   last-ready o l u s from p i q v h eu eq =
       let e = last o l s from p i v h in
       let r = room-left (v .fs) _ _ _ o₀ l₀ o l p i (v .text) (e .1) (room .bytes) (room .frames) in
-      ready form s false q (length u) (drop from m) p (length o) i (length l) eq (sym (ap length eu)) (room .good) (v .numbers)
+      ready form s false q (length u) (drop from m) p (length o) i (length l) eq (sym (ap length eu)) (room .good) (room .long) (v .numbers)
       (omega (arith, ap length eu, length-drop from m, e .0)) (r .0) (r .1)
 
   -- it was written, and so all frames are

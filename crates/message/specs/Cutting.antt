@@ -1,12 +1,12 @@
 -- Cutting a message into DATA frames: which frames there are, the answer, and the two lent lists
--- afterwards. Document 01, "Cutting and joining".
+-- afterwards. Document 01, "Cutting and joining", and document 02, Q-14.
 -- Assumes nothing.
 use mathlib.Core.Bool.{Bool, true, false}
 use mathlib.Core.List.{List, [], _∷_}
 use Prim.Native.Nat.{ℕ, zero, suc, _-_, _/_}
 use lib.Dec.{leb}
 use lib.ListN.{length, take, drop}
-use Rattle.refusal.specs.declared.Refusal.the-variants.{OutOfRange, MessageTooLong, OutputTooShort}
+use Rattle.refusal.specs.declared.Refusal.the-variants.{OutOfRange, MessageTooLong, OutputTooShort, ShortForm}
 use Rattle.refusal.specs.declared.Verdict.{Verdict}
 use Rattle.refusal.specs.declared.Verdict.the-variants.{Done, Refused}
 use Rattle.refusal.specs.Numbers.{numberOf, check}
@@ -14,7 +14,7 @@ use Rattle.lists.specs.Frames.{bytesIn, lengthsOf}
 use Rattle.sequence.specs.Modular.{next}
 use Rattle.sequence.specs.Numbers.{link, packet}
 use Rattle.frame_form.specs.declared.Form.{Form}
-use Rattle.frame_form.specs.Forms.{mostOf, formValid}
+use Rattle.frame_form.specs.Forms.{mostOf, formValid, isLong}
 use Rattle.frame_codec.specs.Writing.{outputBy}
 use Rattle.frame.specs.declared.Packet.{Packet}
 use Rattle.frame.specs.declared.Packet.the-variants.{Data}
@@ -63,21 +63,24 @@ framesFrom form zero s message = frameOf form (dataOf s false) message ∷ []
 framesFrom form (suc k) s message =
     frameOf form (dataOf s true) (take (shareOf form) message) ∷ framesFrom form k (nextStart s) (drop (shareOf form) message)
 
--- all frames of a message
+-- all frames of a message, in any form: those that cutting makes, or, in the short form, that
+-- joining takes
 unfoldable pub framesOf : Form → Start → List ℕ → List (List ℕ)
 framesOf form s message = framesFrom form (fullFrames (shareOf form) (length message)) s message
 
--- "Cutting checks 1, 4, 5". 1: the form is invalid, or SN, PS, PR or CH exceeds its field (`fits`;
--- M always fits). 5: the lent output has `room` bytes, fewer than the frames, or the lent list of
--- lengths has `places` places, fewer than there are frames.
+-- "Cutting checks 1, 4, 5", with 23 "for writing or cutting in the short form, after 1 and before
+-- all others". 1: the form is invalid, or SN, PS, PR or CH exceeds its field (`fits`; M always
+-- fits). 5: the lent output has `room` bytes, fewer than the frames, or the lent list of lengths
+-- has `places` places, fewer than there are frames.
 unfoldable pub cutVerdict : Form → Start → List ℕ → ℕ → ℕ → Verdict
 cutVerdict form s message room places =
     check (formValid form) OutOfRange
     (check (fits (dataOf s false) 0) OutOfRange
+    (check (isLong form) ShortForm
     (check (leb (length message) 4096) MessageTooLong
     (check (leb (length (bytesIn (framesOf form s message))) room) OutputTooShort
     (check (leb (length (framesOf form s message)) places) OutputTooShort
-    Done))))
+    Done)))))
 
 -- the answer: the number of frames and the sum of their bytes, or the refusal
 abbrev pub cutBy : Verdict → List (List ℕ) → Cut

@@ -8,7 +8,7 @@ use Prim.Native.Nat.{ℕ, zero, suc, _+_, _-_, _<_, _≤_}
 use lib.ListN.{length, take, drop}
 use Rattle.lists.specs.Frames.{bytesIn}
 use Rattle.frame_form.specs.declared.Form.{Form}
-use Rattle.frame_form.specs.Forms.{segOf, formValid}
+use Rattle.frame_form.specs.Forms.{longSegment, segOf, formValid, isLong}
 use Rattle.frame_form.specs.Segments.{frameLength}
 use Rattle.frame.specs.declared.Packet.{Packet}
 use Rattle.frame.specs.Packets.{kindOf, layoutOf}
@@ -31,6 +31,7 @@ roomFor form (suc k) n = frameLength (segOf form) (3 + shareOf form) + roomFor f
 pub record Room (form : Form) (s : Start) (message : List ℕ) (room places : ℕ) : Type 0 where
   pub good : formValid form ≡ true
   pub fit : fits (dataOf s false) 0 ≡ true
+  pub long : isLong form ≡ true
   pub small : length message ≤ 4096
   pub bytes : length (bytesIn (framesOf form s message)) ≤ room
   pub frames : length (framesOf form s message) ≤ places
@@ -40,7 +41,8 @@ pub record Room (form : Form) (s : Start) (message : List ℕ) (room places : �
 pub record Ready (form : Form) (p : Packet) (user from room i places : ℕ) : Type 0 where
   pub good : formValid form ≡ true
   pub fit : fits p user ≡ true
+  pub long : isLong form ≡ true
   pub header : layoutOf (kindOf p) .size ≡ 3
   pub share : user ≤ shareOf form
-  pub inside : from + frameLength (segOf form) (3 + user) ≤ room
+  pub inside : from + frameLength longSegment (3 + user) ≤ room
   pub place : i < places

@@ -6,7 +6,7 @@ ghost use lib.ListN.{length, set};
 ghost use Rattle.refusal.specs.Numbers.{verdictNumber, valueBy};
 ghost use Rattle.lists.specs.Frames.{bytesIn, lengthsOf};
 ghost use Rattle.lists.specs.Lists.{over};
-ghost use Rattle.frame_form.specs.Forms.{segOf, formValid};
+ghost use Rattle.frame_form.specs.Forms.{longSegment, formValid, isLong};
 ghost use Rattle.frame_form.specs.Segments.{frameLength};
 ghost use Rattle.frame.specs.Writing.{fits, frameOf};
 ghost use Rattle.message.specs.Cutting.{cutNumber, cutCount, cutBytes, shareOf, fullFrames, dataOf, nextStart, framesOf, cutVerdict, cutBy, cutOf, cutOutput, cutLengths};
@@ -114,42 +114,46 @@ fn full_frames(share: usize, n: usize) -> usize
     (n - 1) / share
 }
 
-// The length of a DATA frame with `n` bytes of user data, padding included.
-fn frame_length(form: Form, n: usize) -> usize
+// The length of a DATA frame with `n` bytes of user data, padding included, in a long form.
+fn frame_length(n: usize) -> usize
     requires { ⌜ n ≤ 4096 ⌝ }
-    ensures { λ r. ⌜ r ≡ frameLength (segOf form) (3 + n) ⌝ }
+    ensures { λ r. ⌜ r ≡ frameLength longSegment (3 + n) ⌝ }
     ensures few { λ r. ⌜ r ≤ 4108 ⌝ }
 {
     let packet = 3 + n;
-    packet + form.padding(packet)
+    packet + Form::long_padding(packet)
 }
 
-// The sum of the lengths of all frames of a message of `n` bytes.
+// The sum of the lengths of all frames of a message of `n` bytes, in a long form.
 fn needed(form: Form, n: usize) -> usize
-    requires { ⌜ (formValid form ≡ true) × (n ≤ 4096) ⌝ }
+    requires { ⌜ (formValid form ≡ true) × (isLong form ≡ true) × (n ≤ 4096) ⌝ }
     ensures { λ r. ⌜ r ≡ roomFor form (fullFrames (shareOf form) n) n ⌝ }
 {
     let share = share_of(form);
     let full = full_frames(share, n);
     let last = n - full * share;
-    full * frame_length(form, share) + frame_length(form, last)
+    full * frame_length(share) + frame_length(last)
 }
 
 // Whether the message may be cut, with `room` bytes for the frames and `places` places for their
-// lengths; checked in the order 1, 4, 5.
+// lengths; checked in the order 1, 23, 4, 5.
 fn check_cut(form: Form, start: Start, message: &[u8], room: usize, places: usize) -> Verdict
     ensures { λ r. ⌜ r ≡ cutVerdict form start (now (message .entry)) room places ⌝ }
 {
     let n = message.len();
     if form.is_valid() && start.fits() {
-        if n <= 4096 {
-            if needed(form, n) <= room && full_frames(share_of(form), n) < places {
-                Verdict::Done
+        if form.is_long() {
+            if n <= 4096 {
+                if needed(form, n) <= room && full_frames(share_of(form), n) < places {
+                    Verdict::Done
+                } else {
+                    Verdict::Refused(Refusal::OutputTooShort)
+                }
             } else {
-                Verdict::Refused(Refusal::OutputTooShort)
+                Verdict::Refused(Refusal::MessageTooLong)
             }
         } else {
-            Verdict::Refused(Refusal::MessageTooLong)
+            Verdict::Refused(Refusal::ShortForm)
         }
     } else {
         Verdict::Refused(Refusal::OutOfRange)
@@ -174,7 +178,7 @@ fn put_one(
     ensures written { λ _. ⌜ now (out .exit) ≡ splice at (frameOf form (Packet.Data packet) (now (user .entry))) (now (out .entry)) ⌝ }
     ensures listed { λ _. ⌜ now (lengths .exit) ≡ set (now (lengths .entry)) i (length (frameOf form (Packet.Data packet) (now (user .entry)))) ⌝ }
 {
-    let len = frame_length(form, user.len());
+    let len = frame_length(user.len());
     let end = at + len;
     frame::write_data(form, packet, user, &mut out[at..end]);
     lengths[i] = len;

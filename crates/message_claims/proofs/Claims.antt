@@ -1,4 +1,5 @@
--- A message cut and joined comes back; frames joined and cut again are the same; fewer frames are
+-- The frames of a message are joined to it, and no others that are as cutting makes them; so a
+-- message cut and joined comes back, and frames joined and cut again are the same; fewer frames are
 -- not possible.
 -- Assumes nothing.
 use mathlib.Core.Path.{_≡_, refl, sym, ap, ap₂, _∙_, subst}
@@ -13,7 +14,7 @@ use Rattle.refusal.specs.declared.Verdict.the-variants.{Done}
 use Rattle.lists.specs.Lists.{over}
 use Rattle.frame_fields.specs.Rows.{AreBytes}
 use Rattle.frame_form.specs.declared.Form.{Form}
-use Rattle.frame_form.specs.Forms.{formValid}
+use Rattle.frame_form.specs.Forms.{formValid, isLong}
 use Rattle.frame_codec.specs.Writing.{outputBy}
 use Rattle.frame.specs.declared.Data.{Data}
 use Rattle.frame.specs.declared.Packet.the-variants.{Data as DataPacket}
@@ -33,7 +34,7 @@ use Rattle.lists.proofs.Frames.{parts-back, sum-lengths, count-lengths, count-p
 use Rattle.message.proofs.Sizes.{share-range, frames-count}
 use Rattle.message.proofs.Passed.{by-frames, passed, accepts}
 use Rattle.message.proofs.Answers.{by-bytes, JoinDone, join-done, join-accepts}
-use Rattle.message_claims.specs.Claims.{CutIsJoined, AsCut, startOf, JoinedIsCut, Reassembly}
+use Rattle.message_claims.specs.Claims.{FramesAreJoined, IsCut, CutIsJoined, AsCut, startOf, JoinedIsCut, Reassembly}
 use Rattle.message_claims.proofs.Parts.{are-bytes}
 use Rattle.message_claims.proofs.Starts.{fits-start}
 use Rattle.message_claims.proofs.Shares.{shares-hold, shares-fewest}
@@ -41,14 +42,14 @@ use Rattle.message_claims.proofs.Cutting.{first, frames-run, frames-mes
 use Rattle.message_claims.proofs.Joining.{message-shares}
 use Rattle.message_claims.proofs.Again.{AllBytes, frames-again}
 
--- ---- cut, then joined
+-- ---- by the layout
 
 some-lengths : (fs : List (List ℕ)) (k : ℕ) → length fs ≡ suc k → isNone (lengthsOf fs) ≡ false
 some-lengths [] k e = absurd (omega arith)
 some-lengths (f ∷ fs) k e = refl
 
--- the frames that cutting makes are joined to the message
-pub frames-join : (form : Form) (s : Start) (message : List ℕ) (room : ℕ) → formValid form ≡ true → fits (dataOf s false) 0 ≡ true → length message ≤ 4096 → length message ≤ room
+-- the frames of a message are joined to it
+frames-join : (form : Form) (s : Start) (message : List ℕ) (room : ℕ) → formValid form ≡ true → fits (dataOf s false) 0 ≡ true → length message ≤ 4096 → length message ≤ room
     → JoinDone form (lengthsOf (framesOf form s message)) (bytesIn (framesOf form s message)) room
     × (messageIn form (partsOf (lengthsOf (framesOf form s message)) (bytesIn (framesOf form s message))) ≡ message)
 unfolding framesOf
@@ -70,75 +71,104 @@ frames-join form s message room good fit small enough =
       msg,
     )
 
-cut-is-joined : (form : Form) (s : Start) (message out lengths room : List ℕ) (count bytes : ℕ) → cutOf form s message (length out) (length lengths) ≡ Frames count bytes
-    → length message ≤ length room → CutIsJoined form s message out lengths room count bytes
-unfolding cutOf cutOutput cutLengths joinOf joinOutput
-cut-is-joined form s message out lengths room count bytes e enough =
+pub frames-are-joined : (form : Form) (s : Start) (message room : List ℕ) → formValid form ≡ true → fits (dataOf s false) 0 ≡ true → length message ≤ 4096
+    → length message ≤ length room → FramesAreJoined form s message room
+unfolding joinOf joinOutput
+frames-are-joined form s message room good fit small enough =
     let fs = framesOf form s message in
-    let c = by-frames (cutVerdict form s message (length out) (length lengths)) fs count bytes e in
-    let d = passed form s message (length out) (length lengths) (c .0) in
-    let j = frames-join form s message (length room) (d .good) (d .fit) (d .small) enough in
+    let j = frames-join form s message (length room) good fit small enough in
     let v = join-accepts form (lengthsOf fs) (bytesIn fs) (length room) (j .0) in
-    let L : take count (outputBy (cutVerdict form s message (length out) (length lengths)) (lengthsOf fs) lengths) ≡ lengthsOf fs =
-    ap (λ (x : Verdict). take count (outputBy x (lengthsOf fs) lengths)) (c .0) ∙ take-at (lengthsOf fs) (drop (length (lengthsOf fs)) lengths) count (count-lengths fs ∙ c .1) in
-    let B : take bytes (outputBy (cutVerdict form s message (length out) (length lengths)) (bytesIn fs) out) ≡ bytesIn fs =
-    ap (λ (x : Verdict). take bytes (outputBy x (bytesIn fs) out)) (c .0) ∙ take-at (bytesIn fs) (drop (length (bytesIn fs)) out) bytes (c .2) in
     record {
-      answer =
-          ap₂ (λ (l b : List ℕ). joinOf form l b (length room)) L B
-          ∙ ap (λ (x : Verdict). joinBy x (length (messageIn form (partsOf (lengthsOf fs) (bytesIn fs))))) v ∙ ap (λ (m : List ℕ). Bytes (length m)) (j .1);
-      output =
-          ap₂ (λ (l b : List ℕ). joinOutput form l b room) L B
-          ∙ ap (λ (x : Verdict). outputBy x (messageIn form (partsOf (lengthsOf fs) (bytesIn fs))) room) v ∙ ap (λ (m : List ℕ). over m room) (j .1);
+      answer = ap (λ (x : Verdict). joinBy x (length (messageIn form (partsOf (lengthsOf fs) (bytesIn fs))))) v ∙ ap (λ (m : List ℕ). Bytes (length m)) (j .1);
+      output = ap (λ (x : Verdict). outputBy x (messageIn form (partsOf (lengthsOf fs) (bytesIn fs))) room) v ∙ ap (λ (m : List ℕ). over m room) (j .1);
     }
-
--- ---- joined, then cut
 
 all-bytes : (ls bytes : List ℕ) → AreBytes bytes → AllBytes (partsOf ls bytes)
 unfolding AllBytes
 all-bytes [] bytes b = tt
 all-bytes (l ∷ ls) bytes b = let p = are-bytes l bytes b in (p .0, all-bytes ls (drop l bytes) (p .1))
 
-joined-is-cut : (form : Form) (l : ℕ) (ls bytes : List ℕ) (room n : ℕ) (d : Data) (place : UserData) (out places : List ℕ)
+-- what is known of frames that join
+joins : (form : Form) (lengths bytes : List ℕ) (room n : ℕ) → joinOf form lengths bytes room ≡ Bytes n → JoinDone form lengths bytes room
+unfolding joinOf
+joins form lengths bytes room n e =
+    join-done form lengths bytes room (by-bytes (joinVerdict form lengths bytes room) (length (messageIn form (partsOf lengths bytes))) n e)
+
+joined-are-frames : (form : Form) (l : ℕ) (ls bytes : List ℕ) (room n : ℕ) (d : Data) (place : UserData)
     → AreBytes bytes → joinOf form (l ∷ ls) bytes room ≡ Bytes n → readOf form (take l bytes) ≡ PacketRead (DataPacket d) place
+    → AsCut form (d .pr .0) true (partsOf (l ∷ ls) bytes) → partsOf (l ∷ ls) bytes ≡ framesOf form (startOf d) (messageIn form (partsOf (l ∷ ls) bytes))
+unfolding framesOf
+joined-are-frames form l ls bytes room n d place are e reads as-cut =
+    let lengths = l ∷ ls in
+    let message = messageIn form (partsOf lengths bytes) in
+    let j = joins form lengths bytes room n e in
+    let again = frames-again form (j .good) true (take l bytes) (partsOf ls (drop l bytes)) Nothing d place (all-bytes lengths bytes are) reads (j .run) as-cut in
+    sym (ap (λ (k : ℕ). framesFrom form k (startOf d) message) (again .1) ∙ again .0)
+
+-- ---- cut, then joined
+
+is-cut : (form : Form) (s : Start) (message out lengths : List ℕ) → formValid form ≡ true → isLong form ≡ true → fits (dataOf s false) 0 ≡ true → length message ≤ 4096
+    → length (bytesIn (framesOf form s message)) ≤ length out → length (framesOf form s message) ≤ length lengths → IsCut form s message out lengths
+unfolding cutOf cutOutput cutLengths
+is-cut form s message out lengths good long fit small room places =
+    let fs = framesOf form s message in
+    let v = accepts form s message (length out) (length lengths) (record { good = good; fit = fit; long = long; small = small; bytes = room; frames = places }) in
+    record {
+      answer = ap (λ (x : Verdict). cutBy x fs) v;
+      output = ap (λ (x : Verdict). outputBy x (bytesIn fs) out) v;
+      lengths-out = ap (λ (x : Verdict). outputBy x (lengthsOf fs) lengths) v;
+    }
+
+cut-is-joined : (form : Form) (s : Start) (message out lengths room : List ℕ) (count bytes : ℕ) → cutOf form s message (length out) (length lengths) ≡ Frames count bytes
+    → length message ≤ length room → CutIsJoined form s message out lengths room count bytes
+unfolding cutOf
+cut-is-joined form s message out lengths room count bytes e enough =
+    let fs = framesOf form s message in
+    let c = by-frames (cutVerdict form s message (length out) (length lengths)) fs count bytes e in
+    let d = passed form s message (length out) (length lengths) (c .0) in
+    let cut = is-cut form s message out lengths (d .good) (d .long) (d .fit) (d .small) (d .bytes) (d .frames) in
+    let joined = frames-are-joined form s message room (d .good) (d .fit) (d .small) enough in
+    let L : take count (cutLengths form s message (length out) lengths) ≡ lengthsOf fs =
+    ap (take count) (cut .lengths-out) ∙ take-at (lengthsOf fs) (drop (length (lengthsOf fs)) lengths) count (count-lengths fs ∙ c .1) in
+    let B : take bytes (cutOutput form s message out (length lengths)) ≡ bytesIn fs =
+    ap (take bytes) (cut .output) ∙ take-at (bytesIn fs) (drop (length (bytesIn fs)) out) bytes (c .2) in
+    record {
+      answer = ap₂ (λ (l b : List ℕ). joinOf form l b (length room)) L B ∙ joined .answer;
+      output = ap₂ (λ (l b : List ℕ). joinOutput form l b room) L B ∙ joined .output;
+    }
+
+-- ---- joined, then cut
+
+joined-is-cut : (form : Form) (l : ℕ) (ls bytes : List ℕ) (room n : ℕ) (d : Data) (place : UserData) (out places : List ℕ)
+    → isLong form ≡ true → AreBytes bytes → joinOf form (l ∷ ls) bytes room ≡ Bytes n → readOf form (take l bytes) ≡ PacketRead (DataPacket d) place
     → AsCut form (d .pr .0) true (partsOf (l ∷ ls) bytes) → length bytes ≤ length out → length (l ∷ ls) ≤ length places
     → JoinedIsCut form (l ∷ ls) bytes d out places
-unfolding joinOf cutOf cutOutput cutLengths framesOf
-joined-is-cut form l ls bytes room n d place out places are e reads as-cut room-out room-places =
+joined-is-cut form l ls bytes room n d place out places long are e reads as-cut room-out room-places =
     let lengths = l ∷ ls in
-    let fs = partsOf lengths bytes in
     let s = startOf d in
-    let message = messageIn form fs in
-    let j = join-done form lengths bytes room (by-bytes (joinVerdict form lengths bytes room) (length message) n e) in
-    let again = frames-again form (j .good) true (take l bytes) (partsOf ls (drop l bytes)) Nothing d place (all-bytes lengths bytes are) reads (j .run) as-cut in
-    let frames : framesFrom form (fullFrames (shareOf form) (length message)) s message ≡ fs = ap (λ (k : ℕ). framesFrom form k s message) (again .1) ∙ again .0 in
-    let B : bytesIn (framesFrom form (fullFrames (shareOf form) (length message)) s message) ≡ bytes = ap bytesIn frames ∙ bytes-back lengths bytes (j .sums) in
-    let L : lengthsOf (framesFrom form (fullFrames (shareOf form) (length message)) s message) ≡ lengths = ap lengthsOf frames ∙ lengths-back lengths bytes (j .sums) in
-    let N : length (framesFrom form (fullFrames (shareOf form) (length message)) s message) ≡ length lengths = ap (λ (x : List (List ℕ)). length x) frames ∙ count-parts lengths bytes in
+    let message = messageIn form (partsOf lengths bytes) in
+    let j = joins form lengths bytes room n e in
+    let frames : framesOf form s message ≡ partsOf lengths bytes = sym (joined-are-frames form l ls bytes room n d place are e reads as-cut) in
+    let B : bytesIn (framesOf form s message) ≡ bytes = ap bytesIn frames ∙ bytes-back lengths bytes (j .sums) in
+    let L : lengthsOf (framesOf form s message) ≡ lengths = ap lengthsOf frames ∙ lengths-back lengths bytes (j .sums) in
+    let N : length (framesOf form s message) ≡ length lengths = ap (λ (x : List (List ℕ)). length x) frames ∙ count-parts lengths bytes in
     let fit : fits (dataOf s false) 0 ≡ true = fits-start d (place .len) (reads-frame form (take l bytes) (DataPacket d) place reads .fit) in
-    let v : cutVerdict form s message (length out) (length places) ≡ Done =
-    accepts form s message (length out) (length places) (record {
-      good = j .good;
-      fit = fit;
-      small = j .small;
-      bytes = subst (λ (x : List ℕ). length x ≤ length out) (sym B) room-out;
-      frames = omega (arith, N, room-places);
-    }) in
+    let cut = is-cut form s message out places (j .good) long fit (j .small) (subst (λ (x : List ℕ). length x ≤ length out) (sym B) room-out) (omega (arith, N, room-places)) in
     record {
-      answer = ap (λ (x : Verdict). cutBy x (framesFrom form (fullFrames (shareOf form) (length message)) s message)) v ∙ ap₂ Frames N (ap length B);
-      output = ap₂ (λ (x : Verdict) (b : List ℕ). outputBy x b out) v B;
-      lengths-out = ap₂ (λ (x : Verdict) (b : List ℕ). outputBy x b places) v L;
+      answer = cut .answer ∙ ap₂ Frames N (ap length B);
+      output = cut .output ∙ ap (λ (x : List ℕ). over x out) B;
+      lengths-out = cut .lengths-out ∙ ap (λ (x : List ℕ). over x places) L;
     }
 
 -- ---- as few as possible
 
 fewest : (form : Form) (lengths bytes : List ℕ) (room n : ℕ) (s : Start) → joinOf form lengths bytes room ≡ Bytes n
     → length (framesOf form s (messageIn form (partsOf lengths bytes))) ≤ length lengths
-unfolding joinOf framesOf
+unfolding framesOf
 fewest form lengths bytes room n s e =
     let fs = partsOf lengths bytes in
     let message = messageIn form fs in
-    let j = join-done form lengths bytes room (by-bytes (joinVerdict form lengths bytes room) (length message) n e) in
+    let j = joins form lengths bytes room n e in
     let some : 1 ≤ shareOf form = omega (arith, share-range form (j .good) .0) in
     let k = fullFrames (shareOf form) (length message) in
     let at-most : length message ≤ length lengths * shareOf form = subst (λ (x : ℕ). length message ≤ x * shareOf form) (count-parts lengths bytes) (message-shares form (j .good) Nothing fs (j .run)) in
@@ -150,4 +180,11 @@ fewest form lengths bytes room n s e =
     go (l ∷ ls) h = omega arith
 
 pub reassembly : Reassembly
-reassembly = record { cut-is-joined = cut-is-joined; joined-is-cut = joined-is-cut; fewest = fewest }
+reassembly = record {
+  frames-are-joined = frames-are-joined;
+  joined-are-frames = joined-are-frames;
+  is-cut = is-cut;
+  cut-is-joined = cut-is-joined;
+  joined-is-cut = joined-is-cut;
+  fewest = fewest;
+}

@@ -7,3 +7,5 @@ pub mod Joining
 pub mod Again
 pub mod Claims
 pub mod Refusing
+pub mod Short
+pub mod Witness

@@ -1,6 +1,9 @@
 -- Messages cut and joined: document 01, "Cutting and joining". The claims are about the answers of
 -- the calls (`cutOf`, `joinOf`) and about the lent lists (`cutOutput`, `cutLengths`, `joinOutput`).
--- proofs/Claims.antt proves them (`reassembly`).
+-- Messages are cut in the long forms only (document 02, Q-14), so what is claimed of cutting is
+-- claimed of these; what is claimed of joining needs no cutting and is claimed of every form, about
+-- the frames that the message has by the layout (`framesOf`). proofs/Claims.antt proves them
+-- (`reassembly`).
 -- Assumes nothing.
 use mathlib.Core.Path.{_≡_}
 use mathlib.Core.Bool.{Bool, true, false}
@@ -10,19 +13,39 @@ use lib.ListN.{length, take}
 use Rattle.lists.specs.Lists.{over}
 use Rattle.frame_fields.specs.Rows.{AreBytes}
 use Rattle.frame_form.specs.declared.Form.{Form}
+use Rattle.frame_form.specs.Forms.{formValid, isLong}
 use Rattle.frame.specs.declared.Data.{Data}
 use Rattle.frame.specs.declared.MaybeData.{MaybeData}
 use Rattle.frame.specs.declared.MaybeData.the-variants.{Nothing, Data as SomeData}
 use Rattle.frame.specs.declared.Packet.the-variants.{Data as DataPacket}
 use Rattle.frame.specs.declared.UserData.{UserData}
 use Rattle.frame.specs.declared.Read.the-variants.{Packet as PacketRead}
+use Rattle.frame.specs.Writing.{fits}
 use Rattle.frame.specs.Reading.{readOf, dataIn}
 use Rattle.message.specs.declared.cutting.Start.{Start}
 use Rattle.message.specs.declared.cutting.Cut.the-variants.{Frames}
 use Rattle.message.specs.declared.joining.Joined.the-variants.{Bytes}
-use Rattle.lists.specs.Frames.{partsOf}
-use Rattle.message.specs.Cutting.{shareOf, framesOf, cutOf, cutOutput, cutLengths}
+use Rattle.lists.specs.Frames.{bytesIn, lengthsOf, partsOf}
+use Rattle.message.specs.Cutting.{shareOf, dataOf, framesOf, cutOf, cutOutput, cutLengths}
 use Rattle.message.specs.Joining.{userIn, messageIn, joinOf, joinOutput}
+
+-- ---- by the layout, in every form
+
+-- the frames of a message are joined; the lent list `room` has room for it
+pub record FramesAreJoined (form : Form) (s : Start) (message room : List ℕ) : Type 0 where
+  -- joining answers with the length of the message
+  pub answer : joinOf form (lengthsOf (framesOf form s message)) (bytesIn (framesOf form s message)) (length room) ≡ Bytes (length message)
+  -- the lent list then begins with the message, and the places past it are unchanged
+  pub output : joinOutput form (lengthsOf (framesOf form s message)) (bytesIn (framesOf form s message)) room ≡ over message room
+
+-- ---- which messages are cut, in the long forms
+
+-- cutting answers with the frames of the message, and leaves them and their lengths at the front of
+-- the lent lists
+pub record IsCut (form : Form) (s : Start) (message out lengths : List ℕ) : Type 0 where
+  pub answer : cutOf form s message (length out) (length lengths) ≡ Frames (length (framesOf form s message)) (length (bytesIn (framesOf form s message)))
+  pub output : cutOutput form s message out (length lengths) ≡ over (bytesIn (framesOf form s message)) out
+  pub lengths-out : cutLengths form s message (length out) lengths ≡ over (lengthsOf (framesOf form s message)) lengths
 
 -- ---- "A message cut and then joined comes back the same."
 
@@ -67,17 +90,31 @@ pub record JoinedIsCut (form : Form) (lengths bytes : List ℕ) (d : Data) (out 
   pub lengths-out : cutLengths form (startOf d) (messageIn form (partsOf lengths bytes)) (length out) places ≡ over lengths places
 
 pub record Reassembly : Type 0 where
+  -- by the layout, in every valid form: the frames of every message whose numbers fit their fields
+  -- are joined to it, so of every message that a site of the short form may still send
+  pub frames-are-joined : (form : Form) (s : Start) (message room : List ℕ)
+      → formValid form ≡ true → fits (dataOf s false) 0 ≡ true → length message ≤ 4096 → length message ≤ length room → FramesAreJoined form s message room
+  -- and every list of frames that joining accepts and that is as cutting makes it, is the list of
+  -- the message's frames, from the numbers of the first one
+  pub joined-are-frames : (form : Form) (l : ℕ) (ls bytes : List ℕ) (room n : ℕ) (d : Data) (place : UserData)
+      → AreBytes bytes → joinOf form (l ∷ ls) bytes room ≡ Bytes n → readOf form (take l bytes) ≡ PacketRead (DataPacket d) place
+      → AsCut form (d .pr .0) true (partsOf (l ∷ ls) bytes) → partsOf (l ∷ ls) bytes ≡ framesOf form (startOf d) (messageIn form (partsOf (l ∷ ls) bytes))
+  -- in every long form, cutting accepts every message whose numbers fit their fields, if the lent
+  -- lists have room for its frames
+  pub is-cut : (form : Form) (s : Start) (message out lengths : List ℕ)
+      → formValid form ≡ true → isLong form ≡ true → fits (dataOf s false) 0 ≡ true → length message ≤ 4096
+      → length (bytesIn (framesOf form s message)) ≤ length out → length (framesOf form s message) ≤ length lengths → IsCut form s message out lengths
   -- every message that cutting accepts
   pub cut-is-joined : (form : Form) (s : Start) (message out lengths room : List ℕ) (count bytes : ℕ)
       → cutOf form s message (length out) (length lengths) ≡ Frames count bytes → length message ≤ length room
       → CutIsJoined form s message out lengths room count bytes
-  -- every list of frames that joining accepts and that is as cutting makes it, if the lent lists
-  -- have room for them
+  -- every list of frames of a long form that joining accepts and that is as cutting makes it, if
+  -- the lent lists have room for them
   pub joined-is-cut : (form : Form) (l : ℕ) (ls bytes : List ℕ) (room n : ℕ) (d : Data) (place : UserData) (out places : List ℕ)
-      → AreBytes bytes → joinOf form (l ∷ ls) bytes room ≡ Bytes n → readOf form (take l bytes) ≡ PacketRead (DataPacket d) place
+      → isLong form ≡ true → AreBytes bytes → joinOf form (l ∷ ls) bytes room ≡ Bytes n → readOf form (take l bytes) ≡ PacketRead (DataPacket d) place
       → AsCut form (d .pr .0) true (partsOf (l ∷ ls) bytes) → length bytes ≤ length out → length (l ∷ ls) ≤ length places
       → JoinedIsCut form (l ∷ ls) bytes d out places
   -- "As few frames as possible are made": any frames that join to a message are at least as many as
-  -- cutting makes of it, whatever numbers it starts from
+  -- the message's frames, whatever numbers these start from
   pub fewest : (form : Form) (lengths bytes : List ℕ) (room n : ℕ) (s : Start) → joinOf form lengths bytes room ≡ Bytes n
       → length (framesOf form s (messageIn form (partsOf lengths bytes))) ≤ length lengths

@@ -1,13 +1,14 @@
--- What follows if a list of checks has the verdict `Done`.
+-- What follows if a list of checks has the verdict `Done`, and which numbers it never has.
 -- Assumes nothing.
 use mathlib.Core.Path.{_≡_, refl}
 use mathlib.Core.Bool.{Bool, true, false, _&&_}
+use mathlib.Core.Logic.{_≢_}
 use Prim.Native.Nat.{ℕ}
 use native.Mathlib.Omega.{arith}
 use Rattle.refusal.specs.declared.Refusal.{Refusal}
 use Rattle.refusal.specs.declared.Verdict.{Verdict}
 use Rattle.refusal.specs.declared.Verdict.the-variants.{Done, Refused}
-use Rattle.refusal.specs.Numbers.{check, andThen}
+use Rattle.refusal.specs.Numbers.{numberOf, verdictNumber, check, andThen}
 
 -- the check held, and all after it
 pub check-done : (b : Bool) (why : Refusal) (rest : Verdict) → check b why rest ≡ Done → (b ≡ true) × (rest ≡ Done)
@@ -23,3 +24,12 @@ both-true false b e = let z : _≡_ {A = ℕ} 0 1 = cc in absurd (omega arith)
 pub then-done : (v w : Verdict) → andThen v w ≡ Done → (v ≡ Done) × (w ≡ Done)
 then-done Done w e = (refl, e)
 then-done (Refused why) w e = let z : _≡_ {A = ℕ} 0 1 = cc in absurd (omega arith)
+
+-- checks never have the number n if none of their refusals has it
+pub check-never : (n : ℕ) (b : Bool) (why : Refusal) (rest : Verdict) → numberOf why ≢ n → verdictNumber rest ≢ n → verdictNumber (check b why rest) ≢ n
+check-never n true why rest this later = later
+check-never n false why rest this later = this
+
+pub then-never : (n : ℕ) (v w : Verdict) → verdictNumber v ≢ n → verdictNumber w ≢ n → verdictNumber (andThen v w) ≢ n
+then-never n Done w first later = later
+then-never n (Refused why) w first later = first

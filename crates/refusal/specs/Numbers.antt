@@ -1,10 +1,10 @@
 -- The refusal numbers, and how the definitions list the checks of a call: document 01, "Refusal
--- numbers".
+-- numbers", and document 02 for the numbers past 17.
 -- Assumes nothing.
 use mathlib.Core.Bool.{Bool, true, false}
 use Prim.Native.Nat.{ℕ}
 use Rattle.refusal.specs.declared.Refusal.{Refusal}
-use Rattle.refusal.specs.declared.Refusal.the-variants.{OutOfRange, Malformed, FormatError, MessageTooLong, OutputTooShort, RouteListMalformed, NoClock, NoInterrogator, WindowClosed, OutsideWindow, OutOfSequence, FirstNotZero, PacketTooLong, NotInOrder, AllFailed, NeverSent, RunBroken}
+use Rattle.refusal.specs.declared.Refusal.the-variants.{OutOfRange, Malformed, FormatError, MessageTooLong, OutputTooShort, RouteListMalformed, NoClock, NoInterrogator, WindowClosed, OutsideWindow, OutOfSequence, FirstNotZero, PacketTooLong, NotInOrder, AllFailed, NeverSent, RunBroken, ShortForm}
 use Rattle.refusal.specs.declared.Verdict.{Verdict}
 use Rattle.refusal.specs.declared.Verdict.the-variants.{Done, Refused}
 
@@ -27,6 +27,7 @@ numberOf NotInOrder = 14
 numberOf AllFailed = 15
 numberOf NeverSent = 16
 numberOf RunBroken = 17
+numberOf ShortForm = 23
 
 -- the number of a verdict: 0 is "done", else the refusal's number
 abbrev pub verdictNumber : Verdict → ℕ

@@ -1,9 +1,12 @@
-// Refusals and verdicts. Their numbers are those of document 01's table "Refusal numbers";
-// specs/Numbers.antt defines them.
+// Refusals and verdicts. Their numbers are those of document 01's table "Refusal numbers" and of
+// document 02's requests; specs/Numbers.antt defines them.
 ghost use mathlib.Core.Path.{_≡_};
+ghost use mathlib.Core.Bool.{cond};
+ghost use lib.Dec.{eqb};
 ghost use Rattle.refusal.specs.Numbers.{numberOf, verdictNumber};
 
-// Why a call is refused. The comment of each case is its row in document 01's table.
+// Why a call is refused. The comment of each case is its row in document 01's table; past 17, what
+// the request of document 02 says.
 pub enum Refusal {
     // 1: an argument exceeds its field (SN over 63, PS or PR over 15, CH, AM or II over 15, TC over
     // 3, downlink segments not 1 to 16)
@@ -41,6 +44,8 @@ pub enum Refusal {
     NeverSent,
     // 17: SN, PS or CH breaks the run while joining
     RunBroken,
+    // 23: writing or cutting in the short form, short uplink (Q-14)
+    ShortForm,
 }
 
 // Whether a call did what was asked: `Done`, which is 0 in the table, or `Refused`, with the
@@ -51,9 +56,11 @@ pub enum Verdict {
 }
 
 impl Refusal {
-    // The refusal's number in the table, 1 to 17.
-    pub fn number(self) -> u8
-        ensures { λ r. ⌜ r ≡ numberOf self ⌝ }
+    // The refusal's place in the list above, counted from 1. The places have no gaps, so that a
+    // compiler computes them and needs no table: with the gap before 23 in this match the calls of
+    // `resequencer_bytes` grow past what it inlines, and each arrival takes 42 instructions more.
+    fn place(self) -> u8
+        ensures { λ r. ⌜ numberOf self ≡ cond (eqb r 18) 23 r ⌝ }
     {
         match self {
             Refusal::OutOfRange => 1,
@@ -73,7 +80,16 @@ impl Refusal {
             Refusal::AllFailed => 15,
             Refusal::NeverSent => 16,
             Refusal::RunBroken => 17,
+            Refusal::ShortForm => 18,
         }
+    }
+
+    // The refusal's number in the table, 1 to 17 or 23.
+    pub fn number(self) -> u8
+        ensures { λ r. ⌜ r ≡ numberOf self ⌝ }
+    {
+        let place = self.place();
+        if place == 18 { 23 } else { place }
     }
 }
 

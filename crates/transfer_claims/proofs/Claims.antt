@@ -7,20 +7,13 @@ use mathlib.Core.List.{List, [], _∷_, _++_}
 use Prim.Native.Nat.{ℕ, _≤_}
 use lib.ListN.{length, take, drop, take-append-drop}
 use lib.Seq.{take-all}
-use Rattle.refusal.specs.declared.Verdict.{Verdict}
-use Rattle.lists.specs.Lists.{over}
-use Rattle.lists.specs.Frames.{bytesIn, lengthsOf, partsOf}
 use Rattle.frame_form.specs.declared.Form.{Form}
 use Rattle.frame_form.specs.Forms.{formValid}
-use Rattle.frame_codec.specs.Writing.{outputBy}
 use Rattle.frame.specs.Writing.{fits}
 use Rattle.frame.specs.Reading.{readOf}
 use Rattle.message.specs.declared.cutting.Start.{Start}
 use Rattle.message.specs.Cutting.{dataOf, framesOf}
-use Rattle.message.specs.declared.joining.Joined.the-variants.{Bytes}
-use Rattle.message.specs.Joining.{messageIn, joinBy, joinOf, joinOutput}
-use Rattle.message.proofs.Answers.{join-accepts}
-use Rattle.message_claims.proofs.Claims.{frames-join}
+use Rattle.message_claims.proofs.Claims.{frames-are-joined, reassembly}
 use Rattle.resequencer.specs.declared.Resequencer.{Resequencer}
 use Rattle.resequencer.specs.State.{freshState}
 use Rattle.resequencer_claims.specs.Events.{Event, nothing, more}
@@ -58,14 +51,7 @@ module _ (form : Form) (frames : List (List ℕ)) (numbered : Numbered form 0 fr
 
 message-joins : (form : Form) (s : Start) (message : List ℕ) → formValid form ≡ true → fits (dataOf s false) 0 ≡ true → length message ≤ 4096
     → JoinTo form (framesOf form s message) message
-unfolding joinOf joinOutput
-message-joins form s message good fit small out enough =
-    let fs = framesOf form s message in
-    let j = frames-join form s message (length out) good fit small enough in
-    let v = join-accepts form (lengthsOf fs) (bytesIn fs) (length out) (j .0) in (
-      ap (λ (x : Verdict). joinBy x (length (messageIn form (partsOf (lengthsOf fs) (bytesIn fs))))) v ∙ ap (λ (m : List ℕ). Bytes (length m)) (j .1),
-      ap (λ (x : Verdict). outputBy x (messageIn form (partsOf (lengthsOf fs) (bytesIn fs))) out) v ∙ ap (λ (m : List ℕ). over m out) (j .1),
-    )
+message-joins form s message good fit small out enough = let j = frames-are-joined form s message out good fit small enough in (j .answer, j .output)
 
 -- ---- all messages, divided into runs
 
@@ -134,4 +120,4 @@ messages form s ms es sent ok =
     }
 
 pub transfer : Transfer
-transfer = record { one-message = one-message; messages = messages; possible = possible }
+transfer = record { cut = reassembly .is-cut; one-message = one-message; messages = messages; possible = possible }

@@ -4,3 +4,4 @@ pub mod Arriving
 pub mod InOrder
 pub mod Claims
 pub mod Within
+pub mod Witness

@@ -1,7 +1,9 @@
 -- The claims about whole transfers: a message that is cut, arrives at a resequencer in any allowed
 -- order and is joined from what is handed on, comes back the same. The quotes are from the request
 -- for these claims; their terms are those of document 01, "Cutting and joining" and "The
--- resequencer". proofs/Claims.antt proves them.
+-- resequencer". They hold in every valid form, of the frames that a message has by the layout. In
+-- the long forms these are what cutting writes (`cut`); in the short form, which is no longer cut
+-- (document 02, Q-14), what a site that still has it sends. proofs/Claims.antt proves them.
 -- Assumes nothing.
 use mathlib.Core.Path.{_≡_}
 use mathlib.Core.Bool.{Bool, true, false}
@@ -12,12 +14,13 @@ use Rattle.refusal.specs.declared.Refusal.{Refusal}
 use Rattle.lists.specs.Lists.{over}
 use Rattle.lists.specs.Frames.{bytesIn, lengthsOf}
 use Rattle.frame_form.specs.declared.Form.{Form}
-use Rattle.frame_form.specs.Forms.{formValid}
+use Rattle.frame_form.specs.Forms.{formValid, isLong}
 use Rattle.frame.specs.Writing.{fits}
 use Rattle.message.specs.declared.cutting.Start.{Start}
 use Rattle.message.specs.Cutting.{dataOf, framesOf}
 use Rattle.message.specs.declared.joining.Joined.the-variants.{Bytes}
 use Rattle.message.specs.Joining.{joinOf, joinOutput}
+use Rattle.message_claims.specs.Claims.{IsCut}
 use Rattle.resequencer.specs.declared.Resequencer.{Resequencer}
 use Rattle.resequencer.specs.declared.Outcome.the-variants.{Refused}
 use Rattle.resequencer.specs.State.{freshState}
@@ -121,8 +124,12 @@ oneByOne n (suc m) = packet n ∷ oneByOne (suc n) m
 
 -- The claims. `one-message` and `messages` hold of everything that may be sent and every allowed
 -- list of events. `possible`: for every list of frames there is such a list of events, in which
--- every frame arrives; so the claims are not empty.
+-- every frame arrives; so the claims are not empty (specs/Witness.antt has one of them computed).
 pub record Transfer : Type 0 where
+  -- "cut it": in a long form, if the lent lists have room for the frames
+  pub cut : (form : Form) (s : Start) (message out lengths : List ℕ)
+      → formValid form ≡ true → isLong form ≡ true → fits (dataOf s false) 0 ≡ true → length message ≤ 4096
+      → length (bytesIn (framesOf form s message)) ≤ length out → length (framesOf form s message) ≤ length lengths → IsCut form s message out lengths
   pub one-message : (form : Form) (s : Start) (message : List ℕ) (es : List Event)
       → formValid form ≡ true → fits (dataOf s false) 0 ≡ true → s .sn .0 ≡ 0 → length message ≤ 4096
       → FramesAllowedList form (framesOf form s message) es → OneMessage form s message es

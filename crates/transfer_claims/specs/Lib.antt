@@ -3,3 +3,4 @@ pub mod Circuit
 pub mod Claims
 pub mod Rule
 pub mod Within
+pub mod Witness

@@ -40,26 +40,26 @@ round-trips = record {
 
 -- ---- the numbers are below 256
 
-verdict-small : (v : Verdict) → verdictNumber v ≤ 17
+verdict-small : (v : Verdict) → verdictNumber v ≤ 255
 verdict-small Done = lit≤ tt
-verdict-small (Refused why) = number-range why .1
+verdict-small (Refused why) = omega (arith, number-range why .1)
 
-grant-small : (g : Grant) → grantNumber g ≤ 17
+grant-small : (g : Grant) → grantNumber g ≤ 255
 grant-small (Granted ps) = lit≤ tt
-grant-small (NotGranted why) = number-range why .1
+grant-small (NotGranted why) = omega (arith, number-range why .1)
 
-receipt-small : (r : Receipt) → receiptNumber r ≤ 17
+receipt-small : (r : Receipt) → receiptNumber r ≤ 255
 receipt-small (Taken due) = lit≤ tt
-receipt-small (NotTaken why) = number-range why .1
+receipt-small (NotTaken why) = omega (arith, number-range why .1)
 
-telling-small : (t : Telling) → tellingNumber t ≤ 17
+telling-small : (t : Telling) → tellingNumber t ≤ 255
 telling-small (Tell pr) = lit≤ tt
-telling-small (NotTold why) = number-range why .1
+telling-small (NotTold why) = omega (arith, number-range why .1)
 
 -- ---- refusals
 
 -- `Unchanged` from the refusal number and the value of the answer
-unchanged : (number value : ℕ) (after before : List ℕ) → number ≤ 17 → (number ≢ 0 → (value ≡ 0) × (after ≡ before))
+unchanged : (number value : ℕ) (after before : List ℕ) → number ≤ 255 → (number ≢ 0 → (value ≡ 0) × (after ≡ before))
     → Unchanged (answerWith number value) after before
 unchanged number value after before small told h =
     let k = told (λ (z : number ≡ 0). h (omega arith)) in (omega (arith, k .0), k .1)

@@ -118,7 +118,11 @@ fn clock_end_far<V: Version>() -> Run {
     let (mut state, mut places) = (start.clone(), [0; 32]);
     looped(move || {
         black_box(&mut state).clone_from(&start);
-        V::clock_end(black_box(&mut state), (50 + 31) % 64, black_box(&mut places))
+        V::clock_end(
+            black_box(&mut state),
+            (50 + 31) % 64,
+            black_box(&mut places),
+        )
     })
 }
 
@@ -129,7 +133,9 @@ fn holding(distances: std::ops::Range<u8>) -> Resequencer {
         ..Resequencer::fresh()
     };
     for distance in distances {
-        state.arrive((50 + distance) % 64, TICKET, &mut [0; 32]).unwrap();
+        state
+            .arrive((50 + distance) % 64, TICKET, &mut [0; 32])
+            .unwrap();
     }
     state
 }

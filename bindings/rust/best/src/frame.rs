@@ -1,4 +1,5 @@
-//! Frames, with the segment's size known when this is compiled.
+//! Frames, with the segment's size known when this is compiled. Only frames with long segments are
+//! written.
 
 use plain::frame::{Form, Packet};
 use plain::Refusal;
@@ -6,6 +7,7 @@ use plain::Refusal;
 pub(crate) const SHORT: usize = 7;
 pub(crate) const LONG: usize = 10;
 pub(crate) const SHORT_LARGEST: usize = 28;
+pub(crate) const UPLINK_LARGEST: usize = 152;
 const CLEAR_REQUEST: u8 = 0x58;
 const CLEAR_CONFIRMATION: u8 = 0x5C;
 
@@ -14,35 +16,29 @@ const CLEAR_CONFIRMATION: u8 = 0x5C;
 pub(crate) fn long_largest(form: Form) -> Result<Option<usize>, Refusal> {
     match form {
         Form::ShortUplink => Ok(None),
-        Form::LongUplink => Ok(Some(152)),
+        Form::LongUplink => Ok(Some(UPLINK_LARGEST)),
         Form::LongDownlink(segments @ 1..=16) => Ok(Some(10 * usize::from(segments))),
         Form::LongDownlink(_) => Err(Refusal::OutOfRange),
     }
 }
 
+/// The largest packet of a form that is written, or why it is not: 1 and 23 are both the form's, so
+/// that one look at it finds either, once all else that is refused with 1 has been looked at.
+#[inline]
+pub(crate) fn written_largest(form: Form) -> Result<usize, Refusal> {
+    long_largest(form)?.ok_or(Refusal::ShortForm)
+}
+
 /// Writes a packet and its user data as one frame to the front of `out`; answers its length.
 #[inline]
 pub fn write(form: Form, packet: &Packet, user: &[u8], out: &mut [u8]) -> Result<usize, Refusal> {
-    match long_largest(form)? {
-        Some(largest) => write_in::<LONG>(largest, packet, user, out),
-        None => write_in::<SHORT>(SHORT_LARGEST, packet, user, out),
-    }
-}
-
-#[inline]
-fn write_in<const SEGMENT: usize>(
-    largest: usize,
-    packet: &Packet,
-    user: &[u8],
-    out: &mut [u8],
-) -> Result<usize, Refusal> {
     match *packet {
         Packet::Data { m, sn, ps, pr, ch } => {
             if sn > 63 || ps | pr | ch > 15 {
                 return Err(Refusal::OutOfRange);
             }
             let header = [0x80 | u8::from(m) << 6 | sn, ps << 4 | pr, ch << 4];
-            put::<SEGMENT, 3>(header, largest, user, out)
+            put(header, written_largest(form)?, user, out)
         }
         Packet::ClearRequest {
             tc,
@@ -61,25 +57,24 @@ fn write_in<const SEGMENT: usize>(
             let flags = u8::from(s) << 7 | u8::from(f) << 4;
             let (second, third) = (tc << 6 | sn, ch << 4 | am);
             let header = [CLEAR_REQUEST, second, third, ag, cc, dc, flags];
-            put::<SEGMENT, 7>(header, largest, user, out)
+            put(header, written_largest(form)?, user, out)
         }
         Packet::ClearConfirmation { tc, sn, ch, am, ag } => {
             if tc > 3 || sn > 63 || ch | am > 15 || !user.is_empty() {
                 return Err(Refusal::OutOfRange);
             }
-            let frame = out
-                .first_chunk_mut::<SEGMENT>()
-                .ok_or(Refusal::OutputTooShort)?;
-            *frame = [0; SEGMENT];
-            frame[..4].copy_from_slice(&[CLEAR_CONFIRMATION, tc << 6 | sn, ch << 4 | am, ag]);
-            Ok(SEGMENT)
+            written_largest(form)?; // one segment fits every form
+            let frame = out.first_chunk_mut().ok_or(Refusal::OutputTooShort)?;
+            let (second, third) = (tc << 6 | sn, ch << 4 | am);
+            *frame = [CLEAR_CONFIRMATION, second, third, ag, 0, 0, 0, 0, 0, 0];
+            Ok(LONG)
         }
     }
 }
 
 /// Puts a header that ends with LV, user data and padding.
 #[inline]
-pub(crate) fn put<const SEGMENT: usize, const HEADER: usize>(
+pub(crate) fn put<const HEADER: usize>(
     mut header: [u8; HEADER],
     largest: usize,
     user: &[u8],
@@ -90,14 +85,14 @@ pub(crate) fn put<const SEGMENT: usize, const HEADER: usize>(
         return Err(Refusal::PacketTooLong);
     }
     // At most 160 bytes, so the division is a short one.
-    let segments = (length as u32).div_ceil(SEGMENT as u32);
-    let end = segments as usize * SEGMENT;
+    let segments = (length as u32).div_ceil(LONG as u32);
+    let end = segments as usize * LONG;
     let frame = out.get_mut(..end).ok_or(Refusal::OutputTooShort)?;
     // The last segment is cleared whole, before anything is put: a store of fixed size.
-    if let Some(last) = frame.last_chunk_mut::<SEGMENT>() {
-        *last = [0; SEGMENT];
+    if let Some(last) = frame.last_chunk_mut::<LONG>() {
+        *last = [0; LONG];
     }
-    header[HEADER - 1] |= (length + SEGMENT - end) as u8;
+    header[HEADER - 1] |= (length + LONG - end) as u8;
     frame[..HEADER].copy_from_slice(&header);
     frame[HEADER..length].copy_from_slice(user);
     Ok(end)

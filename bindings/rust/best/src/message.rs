@@ -1,11 +1,19 @@
-//! Cutting and joining, with the segment's size known when this is compiled.
+//! Cutting and joining, with the segment's size known when this is compiled. Only long segments are
+//! cut.
 
-use crate::frame::{as_word, long_largest, put, read_in, user_data, LONG, SHORT, SHORT_LARGEST};
+use crate::frame::{
+    as_word, long_largest, put, read_in, user_data, written_largest, LONG, SHORT, SHORT_LARGEST,
+    UPLINK_LARGEST,
+};
 use plain::frame::Form;
 use plain::message::{Cut, Start, LONGEST};
 use plain::Refusal;
 
 const HEADER: usize = 3;
+
+/// The frame that the largest packet of the long uplink fills, and the user data in it.
+const UPLINK_WHOLE: usize = UPLINK_LARGEST.next_multiple_of(LONG);
+const UPLINK_SHARE: usize = UPLINK_LARGEST - HEADER;
 
 /// Cuts a message into frames, one after the other in `out`, their lengths in `lengths`.
 #[inline]
@@ -16,48 +24,37 @@ pub fn cut(
     out: &mut [u8],
     lengths: &mut [usize],
 ) -> Result<Cut, Refusal> {
-    match long_largest(form)? {
-        Some(largest) => cut_in::<LONG>(largest, start, message, out, lengths),
-        None => cut_in::<SHORT>(SHORT_LARGEST, start, message, out, lengths),
-    }
-}
-
-#[inline]
-fn cut_in<const SEGMENT: usize>(
-    largest: usize,
-    start: Start,
-    message: &[u8],
-    out: &mut [u8],
-    lengths: &mut [usize],
-) -> Result<Cut, Refusal> {
     if start.sn > 63 || start.ps | start.pr | start.ch > 15 {
         return Err(Refusal::OutOfRange);
     }
+    let largest = written_largest(form)?;
     if message.len() > LONGEST {
         return Err(Refusal::MessageTooLong);
     }
-    let (share, whole) = (largest - HEADER, largest.next_multiple_of(SEGMENT));
+    let (share, whole) = (largest - HEADER, largest.next_multiple_of(LONG));
     // All frames but the last are full; 4,096 fits 32 bits, so the division is a short one.
     let full = (message.len() as u32).saturating_sub(1) / share as u32;
     let (early, rest) = message.split_at(full as usize * share);
-    let last = (HEADER + rest.len()).next_multiple_of(SEGMENT);
-    let made = Cut {
-        frames: full as usize + 1,
-        bytes: full as usize * whole + last,
-    };
-    let (Some(out), Some(lengths)) = (out.get_mut(..made.bytes), lengths.get_mut(..made.frames))
-    else {
+    let last = (HEADER + rest.len()).next_multiple_of(LONG);
+    let (frames, bytes) = (full as usize + 1, full as usize * whole + last);
+    let (Some(out), Some(lengths)) = (out.get_mut(..bytes), lengths.get_mut(..frames)) else {
         return Err(Refusal::OutputTooShort);
     };
     lengths.fill(whole);
-    lengths[made.frames - 1] = last;
-    let (room, end) = out.split_at_mut(made.bytes - last);
+    lengths[frames - 1] = last;
+    let (room, end) = out.split_at_mut(bytes - last);
     let mut header = Header::new(start);
-    for (frame, user) in room.chunks_exact_mut(whole).zip(early.chunks_exact(share)) {
-        header.put_full::<SEGMENT>(user, frame);
+    if largest == UPLINK_LARGEST {
+        for (frame, user) in room.as_chunks_mut().0.iter_mut().zip(early.as_chunks().0) {
+            header.put_uplink(user, frame);
+        }
+    } else {
+        for (frame, user) in room.chunks_exact_mut(whole).zip(early.chunks_exact(share)) {
+            header.put_full(user, frame);
+        }
     }
-    put::<SEGMENT, HEADER>(header.bytes(0), largest, rest, end)?;
-    Ok(made)
+    put(header.bytes(0), largest, rest, end)?;
+    Ok(Cut { frames, bytes })
 }
 
 /// The header that the next frame gets, SN and PS counting up.
@@ -75,19 +72,38 @@ impl Header {
         [0x80 | m << 6 | sn & 63, ps << 4 | pr, ch << 4]
     }
 
-    /// A full frame: its user data ends inside the last segment, or fills it.
+    /// The header of a frame that has more after it, and the next one's numbers.
     #[inline]
-    fn put_full<const SEGMENT: usize>(&mut self, user: &[u8], frame: &mut [u8]) {
-        if let Some(last) = frame.last_chunk_mut::<SEGMENT>() {
-            *last = [0; SEGMENT];
-        }
-        let length = HEADER + user.len();
+    fn take(&mut self, lv: u8) -> [u8; HEADER] {
         let mut header = self.bytes(1);
-        header[HEADER - 1] |= (length + SEGMENT - frame.len()) as u8;
-        frame[..HEADER].copy_from_slice(&header);
-        frame[HEADER..length].copy_from_slice(user);
+        header[HEADER - 1] |= lv;
         self.0.sn = self.0.sn.wrapping_add(1);
         self.0.ps = (self.0.ps + 1) & 15;
+        header
+    }
+
+    /// A full frame: its user data ends inside the last segment, or fills it.
+    #[inline]
+    fn put_full(&mut self, user: &[u8], frame: &mut [u8]) {
+        if let Some(last) = frame.last_chunk_mut::<LONG>() {
+            *last = [0; LONG];
+        }
+        let length = HEADER + user.len();
+        let lv = length + LONG - frame.len();
+        frame[..HEADER].copy_from_slice(&self.take(lv as u8));
+        frame[HEADER..length].copy_from_slice(user);
+    }
+
+    /// A full frame of the long uplink, of which all sizes are known when this is compiled. The
+    /// user data is copied in two parts, each of them in line: the whole would be a call.
+    #[inline]
+    fn put_uplink(&mut self, user: &[u8; UPLINK_SHARE], frame: &mut [u8; UPLINK_WHOLE]) {
+        const LV: usize = UPLINK_LARGEST + LONG - UPLINK_WHOLE;
+        const FRONT: usize = 128;
+        frame[..HEADER].copy_from_slice(&self.take(LV as u8));
+        frame[HEADER..HEADER + FRONT].copy_from_slice(&user[..FRONT]);
+        frame[HEADER + FRONT..UPLINK_LARGEST].copy_from_slice(&user[FRONT..]);
+        frame[UPLINK_LARGEST..].fill(0);
     }
 }
 

@@ -4,6 +4,7 @@ use plain::frame::{Form, Packet};
 use plain::message::Start;
 use plain::resequencer::PLACES;
 use plain::route::LOST;
+use plain::Refusal;
 
 /// Splitmix64.
 struct Random(u64);
@@ -169,9 +170,11 @@ fn packet(random: &mut Random) -> Packet {
     }
 }
 
+/// Writing agrees and, beside it, reading: a frame that was written, or one of the short form,
+/// which is only laid out.
 #[test]
 fn frames() {
-    let mut random = Random(2);
+    let (mut random, mut short) = (Random(2), Short::default());
     for _ in 0..300_000 {
         let (form, packet) = (random.form(), packet(&mut random));
         let longest = [12, 40, 170][random.below(3)];
@@ -188,42 +191,90 @@ fn frames() {
             180
         };
         let (mut fast, mut plain) = (vec![0xEE; room], vec![0xEE; room]);
-        let answer = plain::frame::write(form, &packet, &user, &mut plain);
-        assert_eq!(best::frame::write(form, &packet, &user, &mut fast), answer);
+        let mut made = plain::frame::write(form, &packet, &user, &mut plain);
+        assert_eq!(best::frame::write(form, &packet, &user, &mut fast), made);
         assert_eq!(fast, plain);
-        let Ok(length) = answer else { continue };
-        let mut frame = plain[..length].to_vec();
-        for _ in 0..8 {
-            let read = plain::frame::read(form, &frame);
-            assert_eq!(best::frame::read(form, &frame), read);
-            let at = random.below(frame.len());
-            frame[at] ^= 1 << random.below(8);
-            if random.one_in(8) {
-                frame.resize(random.below(4) * 10 + 10 + random.below(2), 0);
-            }
+        if form == Form::ShortUplink {
+            let laid_out = plain::frame::lay_out(form, &packet, &user, &mut plain);
+            short.saw(made, laid_out);
+            made = laid_out;
+        }
+        if let Ok(length) = made {
+            plain.truncate(length);
+            read_and_damage(&mut random, form, plain);
+        }
+    }
+    short.finish(Refusal::PacketTooLong);
+}
+
+fn read_and_damage(random: &mut Random, form: Form, mut frame: Vec<u8>) {
+    for _ in 0..8 {
+        let read = plain::frame::read(form, &frame);
+        assert_eq!(best::frame::read(form, &frame), read);
+        let at = random.below(frame.len());
+        frame[at] ^= 1 << random.below(8);
+        if random.one_in(8) {
+            frame.resize(random.below(4) * 10 + 10 + random.below(2), 0);
         }
     }
 }
 
+/// How often the short form was refused, by what the layout alone would have said.
+#[derive(Default)]
+struct Short {
+    good: usize,
+    refused: Vec<Refusal>,
+    out_of_range: usize,
+}
+
+impl Short {
+    /// Takes an answer in the short form, and what the layout alone says to the same.
+    fn saw<T>(&mut self, answer: Result<T, Refusal>, laid_out: Result<T, Refusal>) {
+        match (answer.err(), laid_out.err()) {
+            (Some(Refusal::OutOfRange), Some(Refusal::OutOfRange)) => self.out_of_range += 1,
+            (Some(Refusal::ShortForm), None) => self.good += 1,
+            (Some(Refusal::ShortForm), Some(other)) => self.refused.push(other),
+            (other, _) => panic!("{other:?} in the short form"),
+        }
+    }
+
+    /// Each case has to have come often: 1, and 23 before one refusal, before 5, before none.
+    fn finish(self, other: Refusal) {
+        let times = |refusal| self.refused.iter().filter(|&&r| r == refusal).count();
+        for count in [
+            self.good,
+            self.out_of_range,
+            times(other),
+            times(Refusal::OutputTooShort),
+        ] {
+            assert!(count >= 50, "{count} times only");
+        }
+    }
+}
+
+/// A message of about as many whole shares of a form, or about the longest.
+fn some_message(random: &mut Random, form: Form) -> Vec<u8> {
+    let share = form.sizes().map_or(20, |sizes| sizes.largest - 3);
+    let near = share * random.below(5) + random.below(3);
+    let length = if random.one_in(50) {
+        4090 + random.below(10)
+    } else {
+        near.saturating_sub(1)
+    };
+    (0..length).map(|_| random.byte()).collect()
+}
+
+/// Cutting agrees and, beside it, joining: frames that were cut, or those of the short form, which
+/// are only laid out.
 #[test]
 fn messages() {
-    let mut random = Random(3);
+    let (mut random, mut short) = (Random(3), Short::default());
     for _ in 0..40_000 {
         let form = random.form();
-        let share = form.sizes().map_or(20, |sizes| sizes.largest - 3);
-        let near = share * random.below(5) + random.below(3);
-        let length = if random.one_in(50) {
-            4090 + random.below(10)
-        } else {
-            near.saturating_sub(1)
-        };
-        let message: Vec<u8> = (0..length).map(|_| random.byte()).collect();
-        let start = Start {
-            sn: random.field(6),
-            ps: random.field(4),
-            pr: random.field(4),
-            ch: random.field(4),
-        };
+        let message = some_message(&mut random, form);
+        let sn = random.field(6);
+        let [ps, pr, ch] = [(); 3].map(|()| random.field(4));
+        let start = Start { sn, ps, pr, ch };
         let room = if random.one_in(4) {
             random.below(900)
         } else {
@@ -236,16 +287,22 @@ fn messages() {
         };
         let (mut fast, mut plain) = (vec![0xEE; room], vec![0xEE; room]);
         let (mut fast_lengths, mut lengths) = (vec![77; places], vec![77; places]);
-        let answer = plain::message::cut(form, start, &message, &mut plain, &mut lengths);
-        let fast_answer = best::message::cut(form, start, &message, &mut fast, &mut fast_lengths);
-        assert_eq!(fast_answer, answer);
+        let mut made = plain::message::cut(form, start, &message, &mut plain, &mut lengths);
+        let fast_made = best::message::cut(form, start, &message, &mut fast, &mut fast_lengths);
+        assert_eq!(fast_made, made);
         assert!(fast == plain && fast_lengths == lengths);
-        if let Ok(made) = answer {
+        if form == Form::ShortUplink {
+            let laid_out = plain::message::lay_out(form, start, &message, &mut plain, &mut lengths);
+            short.saw(made, laid_out);
+            made = laid_out;
+        }
+        if let Ok(made) = made {
             plain.truncate(made.bytes);
             lengths.truncate(made.frames);
             join(&mut random, form, lengths, plain);
         }
     }
+    short.finish(Refusal::MessageTooLong);
 }
 
 fn join(random: &mut Random, form: Form, mut lengths: Vec<usize>, mut frames: Vec<u8>) {

@@ -5,6 +5,7 @@ use crate::Refusal;
 /// The form of a frame.
 #[derive(Clone, Copy, Debug, PartialEq, Eq)]
 pub enum Form {
+    /// Read and joined, no longer written or cut.
     ShortUplink,
     LongUplink,
     /// With its number of segments, 1 to 16.
@@ -39,6 +40,15 @@ impl Form {
             Form::LongDownlink(_) => return Err(Refusal::OutOfRange),
         };
         Ok(Sizes { segment, largest })
+    }
+
+    /// Refuses the form that is read, but no longer written.
+    #[inline]
+    pub(crate) fn still_written(self) -> Result<(), Refusal> {
+        match self {
+            Form::ShortUplink => Err(Refusal::ShortForm),
+            Form::LongUplink | Form::LongDownlink(_) => Ok(()),
+        }
     }
 }
 
@@ -202,14 +212,38 @@ fn flag(byte: u8) -> Result<bool, Refusal> {
     }
 }
 
-/// Writes a packet and its user data as one frame to the front of `out`; answers its length.
+/// Writes a packet and its user data as one frame to the front of `out`; answers its length. Checks
+/// 1, then the short form (23), then 13 and 5.
 #[inline]
 pub fn write(form: Form, packet: &Packet, user: &[u8], out: &mut [u8]) -> Result<usize, Refusal> {
+    let sizes = in_range(form, packet, user)?;
+    form.still_written()?;
+    put(sizes, packet, user, out)
+}
+
+/// The frame by the layout, for every form; the writer refuses the short one. Checks 1, 13, 5.
+///
+/// Frames of the short form are still read, so good ones are needed wherever reading is tried.
+#[inline]
+pub fn lay_out(form: Form, packet: &Packet, user: &[u8], out: &mut [u8]) -> Result<usize, Refusal> {
+    let sizes = in_range(form, packet, user)?;
+    put(sizes, packet, user, out)
+}
+
+/// All that is refused with 1; answers the sizes of the form.
+#[inline]
+fn in_range(form: Form, packet: &Packet, user: &[u8]) -> Result<Sizes, Refusal> {
     let sizes = form.sizes()?;
     let takes_user = !matches!(packet, Packet::ClearConfirmation { .. });
     if !packet.fits() || !(takes_user || user.is_empty()) {
         return Err(Refusal::OutOfRange);
     }
+    Ok(sizes)
+}
+
+/// Puts a packet that is in range to the front of `out`, as a frame with segments of this size.
+#[inline(always)] // into each of the two callers: writing has one size of segments only
+fn put(sizes: Sizes, packet: &Packet, user: &[u8], out: &mut [u8]) -> Result<usize, Refusal> {
     let header = packet.header_len();
     let length = header + user.len();
     if length > sizes.largest {
@@ -347,7 +381,7 @@ mod tests {
         assert_eq!(out[10..], [0xEE; 10]);
         assert_eq!(write(LONG, &DATA, &[1; 8], &mut out), Ok(20));
         assert_eq!((out[2], &out[11..]), (1, &[0; 9][..]));
-        assert_eq!(write(Form::ShortUplink, &DATA, &[1; 4], &mut out), Ok(7));
+        assert_eq!(lay_out(Form::ShortUplink, &DATA, &[1; 4], &mut out), Ok(7));
         assert_eq!(out[2], 7);
     }
 

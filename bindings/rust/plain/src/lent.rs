@@ -168,8 +168,8 @@ fn event(state: &mut [u8], event: impl FnOnce(&mut Resequencer) -> Result<Answer
     packed::event(&on_state(state, event))
 }
 
-/// Every refusal with 1 comes before 13 and 5: that of the form, of the packet's bytes, and of what
-/// they hold.
+/// Every refusal with 1 comes before 23, 13 and 5: that of the form, of the packet's bytes, and of
+/// what they hold.
 pub fn frame_write(form: u8, packet: &[u8], user: &[u8], out: &mut [u8]) -> u64 {
     let length = Form::from_number(form).and_then(|form| {
         let packet = Packet::from_bytes(packet)?;

@@ -7,6 +7,9 @@
 //!
 //! [`lent`] has the same calls as the interface makes them, on lent lists and with packed answers.
 //! [`replay`] is the replay program.
+//!
+//! [`frame::lay_out`] and [`message::lay_out`] are no calls of the interface: they make frames of
+//! every form, also of the short one, which the calls read and join but no longer write and cut.
 
 pub mod frame;
 pub mod lent;
@@ -23,3 +26,5 @@ pub use refusal::Refusal;
 
 #[cfg(test)]
 mod paper;
+#[cfg(test)]
+mod short;

@@ -23,7 +23,8 @@ pub struct Cut {
     pub bytes: usize,
 }
 
-/// Cuts a message into frames, one after the other in `out`, their lengths in `lengths`.
+/// Cuts a message into frames, one after the other in `out`, their lengths in `lengths`. Checks 1,
+/// then the short form (23), then 4 and 5.
 #[inline]
 pub fn cut(
     form: Form,
@@ -32,11 +33,24 @@ pub fn cut(
     out: &mut [u8],
     lengths: &mut [usize],
 ) -> Result<Cut, Refusal> {
-    let sizes = form.sizes()?;
-    let Start { sn, ps, pr, ch } = start;
-    if sn > 63 || ps > 15 || pr > 15 || ch > 15 {
-        return Err(Refusal::OutOfRange);
-    }
+    in_range(form, start)?;
+    form.still_written()?;
+    lay_out(form, start, message, out, lengths)
+}
+
+/// The frames of a message by the layout, for every form; cutting refuses the short one. Checks 1,
+/// 4, 5.
+///
+/// Frames of the short form are still joined, so good runs are needed wherever joining is tried.
+#[inline]
+pub fn lay_out(
+    form: Form,
+    start: Start,
+    message: &[u8],
+    out: &mut [u8],
+    lengths: &mut [usize],
+) -> Result<Cut, Refusal> {
+    let sizes = in_range(form, start)?;
     if message.len() > LONGEST {
         return Err(Refusal::MessageTooLong);
     }
@@ -46,6 +60,17 @@ pub fn cut(
     }
     fill_frames(form, start, message, out, &mut lengths[..needed.frames])?;
     Ok(needed)
+}
+
+/// All that is refused with 1; answers the sizes of the form.
+#[inline]
+fn in_range(form: Form, start: Start) -> Result<Sizes, Refusal> {
+    let sizes = form.sizes()?;
+    let Start { sn, ps, pr, ch } = start;
+    if sn > 63 || ps > 15 || pr > 15 || ch > 15 {
+        return Err(Refusal::OutOfRange);
+    }
+    Ok(sizes)
 }
 
 /// How many frames a message makes, and their bytes.
@@ -82,7 +107,7 @@ fn fill_frames(
         let (now, later) = user.split_at(user.len().min(share));
         let m = index < last;
         let packet = Packet::Data { m, sn, ps, pr, ch };
-        *length = frame::write(form, &packet, now, room)?;
+        *length = frame::lay_out(form, &packet, now, room)?;
         (user, room) = (later, &mut room[*length..]);
         (sn, ps) = (link_next(sn), packet_next(ps));
     }
@@ -186,9 +211,14 @@ mod tests {
         (0..length).map(|at| (at * 7 + at / 256) as u8).collect()
     }
 
-    fn cut_whole(form: Form, length: usize) -> (Vec<usize>, Vec<u8>) {
+    /// Cut in a long form; the short one is only laid out.
+    fn frames_of(form: Form, length: usize) -> (Vec<usize>, Vec<u8>) {
         let (mut out, mut lengths) = (vec![0xEE; 8192], vec![77; 600]);
-        let made = cut(form, START, &message(length), &mut out, &mut lengths).unwrap();
+        let make = match form {
+            Form::ShortUplink => lay_out,
+            _ => cut,
+        };
+        let made = make(form, START, &message(length), &mut out, &mut lengths).unwrap();
         assert!(out[made.bytes..].iter().all(|&byte| byte == 0xEE));
         assert!(lengths[made.frames..].iter().all(|&place| place == 77));
         out.truncate(made.bytes);
@@ -198,19 +228,19 @@ mod tests {
 
     #[test]
     fn full_shares_make_no_empty_frame() {
-        assert_eq!(cut_whole(LONG, 0).0, [10]);
-        assert_eq!(cut_whole(LONG, 149).0, [160]);
-        assert_eq!(cut_whole(LONG, 150).0, [160, 10]);
-        assert_eq!(cut_whole(Form::LongDownlink(1), 4096).0.len(), 586);
-        assert_eq!(cut_whole(Form::ShortUplink, 50).0, [28, 28]);
+        assert_eq!(frames_of(LONG, 0).0, [10]);
+        assert_eq!(frames_of(LONG, 149).0, [160]);
+        assert_eq!(frames_of(LONG, 150).0, [160, 10]);
+        assert_eq!(frames_of(Form::LongDownlink(1), 4096).0.len(), 586);
+        assert_eq!(frames_of(Form::ShortUplink, 50).0, [28, 28]);
     }
 
     #[test]
-    fn every_length_comes_back_in_every_form() {
+    fn every_length_comes_back_cut_in_long_forms_laid_out_in_the_short_one() {
         let downlinks = (1..=16).map(Form::LongDownlink);
         for form in downlinks.chain([Form::ShortUplink, LONG]) {
             for length in (0..400).chain(4080..=4096) {
-                let (lengths, frames) = cut_whole(form, length);
+                let (lengths, frames) = frames_of(form, length);
                 let mut out = vec![0xEE; 5000];
                 assert_eq!(join(form, &lengths, &frames, &mut out), Ok(length));
                 assert_eq!(out[..length], message(length));

@@ -19,6 +19,8 @@ pub enum Refusal {
     AllFailed = 15,
     NeverSent = 16,
     RunBroken = 17,
+    /// The short uplink form is read and joined, but no longer written or cut.
+    ShortForm = 23,
 }
 
 impl Refusal {

@@ -1,4 +1,5 @@
-//! Frames: written, read back, and read after damage.
+//! Frames: written, read back, and read after damage. Frames of the short form are not written any
+//! more but still read: where one is read, `plain` has laid it out.
 
 use pepperknoll::raw;
 use pepperknoll::{LinkNumber, PacketNumber};
@@ -9,6 +10,9 @@ use crate::support::{answer, by_number, safe_by_number, Call, Lent, Random, Tria
 
 pub fn run(trial: &mut Trial) {
     several_refusals(trial);
+    short_with_other_refusals(trial);
+    short_with_every_value(trial);
+    every_short_frame(trial);
     every_form(trial);
     every_byte_without_a_field(trial);
     every_header_byte(trial);
@@ -51,6 +55,23 @@ impl Writing {
         let form = Form::from_number(self.form)?;
         let packet = Packet::from_bytes(&self.packet)?;
         frame::write(form, &packet, &self.user, out)
+    }
+
+    /// The frame by the layout, in every form and whatever the room.
+    fn laid_out(&self) -> Result<Vec<u8>, Refusal> {
+        let form = Form::from_number(self.form)?;
+        let packet = Packet::from_bytes(&self.packet)?;
+        let mut frame = vec![DIRT; 160];
+        let length = frame::lay_out(form, &packet, &self.user, &mut frame)?;
+        frame.truncate(length);
+        Ok(frame)
+    }
+
+    /// Writes with all three, which have to refuse it with this number.
+    fn check_refused(&self, trial: &mut Trial, bed: &mut Bed, number: u8) {
+        let refusal = self.plain(&mut vec![DIRT; self.room]).unwrap_err();
+        assert_eq!(refusal.number(), number, "{self:?}");
+        assert_eq!(self.check(trial, bed), None, "{self:?}");
     }
 
     /// Writes with all three; gives the frame if there is one.
@@ -248,7 +269,7 @@ fn some_writing(random: &mut Random) -> Writing {
         user: random.bytes(length),
         room: 0,
     };
-    let needed = writing.plain(&mut [0; 200]).unwrap_or(20);
+    let needed = writing.laid_out().map_or(20, |frame| frame.len());
     writing.room = match random.below(10) {
         0 => needed - 1,
         1 => needed,
@@ -276,13 +297,18 @@ fn damage(random: &mut Random, frame: &mut Vec<u8>) {
     }
 }
 
+/// In a long form what was written is read back, in the short one what the layout makes; and both
+/// are read after damage.
 fn written_and_damaged(trial: &mut Trial) {
     let mut bed = Bed::new();
     for _ in 0..trial.times(400_000, 2_200_000) {
         let writing = some_writing(&mut trial.random);
-        let Some(mut frame) = writing.check(trial, &mut bed) else {
-            continue;
-        };
+        let mut made = writing.check(trial, &mut bed);
+        if writing.form == SHORT {
+            assert_eq!(made, None, "{writing:?}");
+            made = writing.laid_out().ok();
+        }
+        let Some(mut frame) = made else { continue };
         let back = check_read(trial, &mut bed, writing.form, &frame);
         assert_eq!(
             back,
@@ -300,13 +326,14 @@ fn written_and_damaged(trial: &mut Trial) {
     }
 }
 
-/// Each number of a form, 256 of them, by the largest packet: it is written, and read back, and a
-/// byte more is 13. Where there is no such form, all of this is 1.
+/// Each number of a form, 256 of them, by the largest packet: it is written in the long forms, read
+/// in all, and a byte more is 13. Writing in the short form is 23 with either. Where there is no
+/// such form, all of this is 1.
 fn every_form(trial: &mut Trial) {
     let mut bed = Bed::new();
     for form in 0..=255 {
         let largest = match form {
-            0 => 28,
+            SHORT => 28,
             17 => 152,
             _ => 10 * usize::from(form),
         };
@@ -316,15 +343,21 @@ fn every_form(trial: &mut Trial) {
             user: vec![0x77; largest - 3],
             room: largest + 10,
         };
-        let frame = writing.check(trial, &mut bed);
-        assert_eq!(frame.is_some(), form <= 17, "form {form}");
-        let frame = frame.unwrap_or(vec![0x80, 0, 3, 0, 0, 0, 0, 0, 0, 0]);
+        let written = writing.check(trial, &mut bed);
+        assert_eq!(written.is_some(), (1..=17).contains(&form), "form {form}");
+        let laid_out = writing.laid_out().ok();
+        assert_eq!(laid_out.is_some(), form <= 17, "form {form}");
+        assert!(written.is_none() || written == laid_out, "form {form}");
+        let frame = laid_out.unwrap_or(vec![0x80, 0, 3, 0, 0, 0, 0, 0, 0, 0]);
         let packet = check_read(trial, &mut bed, form, &frame);
         assert_eq!(packet.is_some(), form <= 17, "form {form}");
         writing.user.push(0x77);
-        let refusal = writing.plain(&mut [0; 3000]).unwrap_err();
-        assert_eq!(refusal.number(), if form <= 17 { 13 } else { 1 });
-        writing.check(trial, &mut bed);
+        let number = match form {
+            SHORT => 23,
+            1..=17 => 13,
+            _ => 1,
+        };
+        writing.check_refused(trial, &mut bed, number);
     }
 }
 
@@ -352,7 +385,95 @@ fn every_byte_without_a_field(trial: &mut Trial) {
     }
 }
 
-/// Good frames to start from, in one to three segments.
+/// The number of the short form, which is read and not written.
+pub const SHORT: u8 = 0;
+
+/// A packet of each kind with the largest value in every byte; a byte without a field has 0.
+const LARGEST: [[u8; PACKET_BYTES]; 3] = [
+    [0, 1, 63, 15, 15, 15, 0, 0, 0, 0],
+    [1, 3, 63, 15, 15, 255, 255, 255, 1, 1],
+    [2, 3, 63, 15, 15, 255, 0, 0, 0, 0],
+];
+
+fn short_writing(packet: &[u8], user_length: usize, room: usize) -> Writing {
+    Writing {
+        form: SHORT,
+        packet: packet.to_vec(),
+        user: vec![0x77; user_length],
+        room,
+    }
+}
+
+/// The short form together with everything else that a writing is refused for: packets that are
+/// good or not, user data around the largest packet of 28 bytes, room around each whole number of
+/// segments. 23 comes after 1, and before 13 and 5.
+fn short_with_other_refusals(trial: &mut Trial) {
+    let mut bed = Bed::new();
+    let good = LARGEST.map(|packet| (packet.to_vec(), true));
+    let mut packets = good.to_vec();
+    for (kind, at, value) in [(0, 2, 64), (0, 5, 16), (1, 2, 64), (1, 9, 2), (2, 9, 1)] {
+        let mut packet = LARGEST[kind].to_vec();
+        packet[at] = value; // past its field, a flag over 1, a byte without a field
+        packets.push((packet, false));
+    }
+    let no_kind = vec![3, 0, 0, 0, 0, 0, 0, 0, 0, 0];
+    for no_packet in [no_kind, vec![], vec![0; 9], vec![0; 11]] {
+        packets.push((no_packet, false));
+    }
+    for (packet, good) in packets {
+        let confirmation = packet.first() == Some(&2);
+        for length in [0, 1, 4, 5, 20, 21, 22, 25, 26, 149, 150, 300] {
+            for room in [0, 1, 6, 7, 8, 13, 14, 20, 21, 27, 28, 29, 200] {
+                let in_range = good && (!confirmation || length == 0);
+                let number = if in_range { 23 } else { 1 };
+                short_writing(&packet, length, room).check_refused(trial, &mut bed, number);
+            }
+        }
+    }
+}
+
+/// Each value of each byte of each kind in the short form: 1 where it exceeds its field, else 23.
+fn short_with_every_value(trial: &mut Trial) {
+    let mut bed = Bed::new();
+    for good in LARGEST {
+        for at in 1..PACKET_BYTES {
+            for value in 0..=255 {
+                let mut packet = good;
+                packet[at] = value;
+                let number = if value <= good[at] { 23 } else { 1 };
+                for room in [28, 0] {
+                    short_writing(&packet, 0, room).check_refused(trial, &mut bed, number);
+                }
+            }
+        }
+    }
+    for kind in 3..=255 {
+        let packet = [kind, 0, 0, 0, 0, 0, 0, 0, 0, 0];
+        short_writing(&packet, 0, 28).check_refused(trial, &mut bed, 1);
+    }
+}
+
+/// Every short frame by its length: each kind, one to four segments, each LV. All are read.
+fn every_short_frame(trial: &mut Trial) {
+    let mut bed = Bed::new();
+    for good in LARGEST {
+        let most = [25, 21, 0][usize::from(good[0])];
+        for length in 0..=most {
+            let writing = short_writing(&good, length, 28);
+            writing.check_refused(trial, &mut bed, 23);
+            let frame = writing.laid_out().expect("it fits");
+            for _ in 0..20 {
+                let packet = check_read(trial, &mut bed, SHORT, &frame);
+                assert_eq!(packet, Packet::from_bytes(&good).ok(), "{frame:x?}");
+            }
+            for form in 1..=20 {
+                check_read(trial, &mut bed, form, &frame);
+            }
+        }
+    }
+}
+
+/// Good frames to start from, by the layout, in one to three segments.
 fn good_frames(form: u8) -> Vec<Vec<u8>> {
     let packets = [
         ([0, 1, 5, 3, 2, 4, 0, 0, 0, 0], &[0usize, 2, 9, 15][..]),
@@ -362,17 +483,13 @@ fn good_frames(form: u8) -> Vec<Vec<u8>> {
     let mut frames = Vec::new();
     for (packet, lengths) in packets {
         for &length in lengths {
-            let mut out = vec![0; 200];
             let writing = Writing {
                 form,
                 packet: packet.to_vec(),
                 user: vec![0x77; length],
                 room: 0,
             };
-            if let Ok(length) = writing.plain(&mut out) {
-                out.truncate(length);
-                frames.push(out);
-            }
+            frames.extend(writing.laid_out());
         }
     }
     frames
@@ -458,8 +575,12 @@ fn several_refusals(trial: &mut Trial) {
         (17, data, 150, 0, 13),
         (17, data, 149, 159, 5),
         (17, confirmation, 0, 9, 5),
-        (0, data, 26, 0, 13),
         (1, data, 8, 0, 13),
+        (SHORT, wide, 200, 0, 1), // in the short form as well
+        (SHORT, data, 26, 0, 23), // 29 bytes, no room
+        (SHORT, data, 25, 0, 23), // no room
+        (SHORT, data, 25, 28, 23),
+        (SHORT, confirmation, 0, 7, 23),
     ];
     for (form, packet, length, room, number) in cases {
         let writing = Writing {
@@ -468,9 +589,7 @@ fn several_refusals(trial: &mut Trial) {
             user: vec![1; length],
             room,
         };
-        let refusal = writing.plain(&mut vec![DIRT; room]).unwrap_err();
-        assert_eq!(refusal.number(), number, "{writing:?}");
-        assert_eq!(writing.check(trial, &mut bed), None);
+        writing.check_refused(trial, &mut bed, number);
     }
     reading_several_refusals(trial, &mut bed);
 }
@@ -482,7 +601,9 @@ fn reading_several_refusals(trial: &mut Trial, bed: &mut Bed) {
     long_and_wrong[19] = 1;
     let mut two_segments = vec![0; 20]; // of a packet that has one
     two_segments[0] = 0x5C;
-    let cases: [(u8, &[u8], u8); 8] = [
+    let mut short = vec![0; 35]; // too long for the short form
+    short[..3].copy_from_slice(&[0x80, 0, 1]);
+    let cases: [(u8, &[u8], u8); 13] = [
         (18, &[], 1),
         (255, &[], 1),
         (17, &[], 2),
@@ -491,6 +612,11 @@ fn reading_several_refusals(trial: &mut Trial, bed: &mut Bed) {
         (1, &long_and_wrong, 3),
         (1, &long, 13),
         (1, &two_segments, 3),
+        (SHORT, &[], 2),
+        (SHORT, &[0xFF; 10], 2),
+        (SHORT, &[0x01; 35], 3),
+        (SHORT, &two_segments[..14], 3),
+        (SHORT, &short, 13),
     ];
     for (form, frame, number) in cases {
         let wanted = Form::from_number(form).and_then(|form| frame::read(form, frame));

@@ -12,6 +12,7 @@ pub fn run(trial: &mut Trial) {
     orders_of_events();
     orders_of_updates();
     orders_of_frames();
+    orders_of_writes();
     for length in wrong(2) {
         sender(trial, length);
     }
@@ -416,7 +417,7 @@ fn read(trial: &mut Trial, places: usize) {
 /// The order of a read's refusals, number by number, and what is past the packet.
 fn orders_of_frames() {
     let frames = some_frames();
-    let (good, long, wrong) = (&frames[3], &frames[4], &frames[5]);
+    let (short, good, long, wrong) = (&frames[1], &frames[3], &frames[4], &frames[5]);
     for (form, frame, places, number) in [
         (18, &vec![], 9, 1),
         (255, good, 9, 1),
@@ -427,6 +428,8 @@ fn orders_of_frames() {
         (1, long, 10, 13),
         (17, good, 9, 5),
         (17, good, 0, 5),
+        (0, good, 9, 2), // no whole number of short segments
+        (0, short, 9, 5),
     ] {
         let dirt = vec![0xEE; places];
         let mut packet = Lent::of(&dirt);
@@ -445,5 +448,38 @@ fn orders_of_frames() {
         let mut wanted = vec![2, 0, 9, 3, 2, 0x41, 0, 0, 0, 0];
         wanted.resize(places, 0xEE);
         packet.assert_holds(&wanted, || format!("{places} places"));
+        let mut packet = Lent::of(&vec![0xEE; places]);
+        assert_eq!(raw_read(0, &Lent::of(short), &mut packet), 3 << 8);
+        wanted[..10].fill(0);
+        packet.assert_holds(&wanted, || format!("{places} places, short form"));
+    }
+}
+
+/// The order of a write's refusals by the length of the packet, number by number: in the short form
+/// a packet of ten bytes is 23 where another length is 1.
+fn orders_of_writes() {
+    for (form, length, user, room, number) in [
+        (18, 10, 300, 0, 1),
+        (17, 9, 300, 0, 1),
+        (17, 11, 0, 10, 1),
+        (17, 10, 300, 0, 13),
+        (17, 10, 0, 9, 5),
+        (0, 9, 300, 0, 1),
+        (0, 9, 0, 7, 1),
+        (0, 11, 0, 7, 1),
+        (0, 0, 0, 0, 1),
+        (0, 10, 300, 0, 23),
+        (0, 10, 26, 28, 23),
+        (0, 10, 25, 28, 23),
+        (0, 10, 0, 6, 23),
+        (0, 10, 0, 7, 23),
+    ] {
+        let dirt = vec![0xEE; room];
+        let mut out = Lent::of(&dirt);
+        let (packet, user) = (Lent::of(&vec![0; length]), Lent::of(&vec![1; user]));
+        let what = || format!("form {form}, packet of {length}, room {room}");
+        let got = raw_write(form, &packet, &user, &mut out);
+        assert_eq!(got, number, "{}", what());
+        out.assert_holds(&dirt, what);
     }
 }

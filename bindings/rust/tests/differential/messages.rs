@@ -1,4 +1,6 @@
-//! Messages: cut, joined again, and joined after something was changed.
+//! Messages: cut, joined again, and joined after something was changed. Messages are not cut into
+//! short frames any more, but runs of them are still joined: where one is joined, `plain` has laid
+//! it out.
 
 use pepperknoll::{raw, LinkNumber, PacketNumber};
 use plain::frame::{self, Form, Packet};
@@ -6,11 +8,12 @@ use plain::message::{self, Cut, Start};
 use plain::packed;
 use plain::Refusal;
 
-use crate::frames::{safe_form, some_form};
+use crate::frames::{safe_form, some_form, SHORT};
 use crate::support::{answer, by_number, safe_by_number, Call, Lent, Random, Trial};
 
 pub fn run(trial: &mut Trial) {
     several_refusals(trial);
+    short_with_other_refusals(trial);
     every_form(trial);
     every_length(trial);
     cut_and_changed(trial);
@@ -52,6 +55,44 @@ impl Cutting {
         message::cut(form, self.start, &self.message, out, lengths)
     }
 
+    /// The frames by the layout, in every form and whatever the room.
+    fn laid_out(&self) -> Result<Joining, Refusal> {
+        let form = Form::from_number(self.form)?;
+        let (mut out, mut lengths) = (vec![DIRT; 8192], vec![LENGTH_DIRT; 600]);
+        let made = message::lay_out(form, self.start, &self.message, &mut out, &mut lengths)?;
+        Ok(self.joining(made, out, lengths))
+    }
+
+    /// What is to be joined once frames were made.
+    fn joining(&self, made: Cut, mut frames: Vec<u8>, mut lengths: Vec<usize>) -> Joining {
+        frames.truncate(made.bytes);
+        lengths.truncate(made.frames);
+        Joining {
+            form: self.form,
+            lengths,
+            frames,
+            room: self.message.len(),
+        }
+    }
+
+    /// Cuts with all three, which have to refuse it with this number.
+    fn check_refused(&self, trial: &mut Trial, bed: &mut Bed, number: u8) {
+        let refusal = self.plain(&mut vec![0; self.room], &mut vec![0; self.places]);
+        assert_eq!(refusal.unwrap_err().number(), number, "{self:?}");
+        assert!(self.check(trial, bed).is_none(), "{self:?}");
+    }
+
+    /// Cuts with all three; gives lengths and frames to join: in a long form those that were cut,
+    /// if any were, in the short one those that the layout makes.
+    fn check_to_join(&self, trial: &mut Trial, bed: &mut Bed) -> Option<Joining> {
+        let cut = self.check(trial, bed);
+        if self.form == SHORT {
+            assert!(cut.is_none(), "{self:?}");
+            return self.laid_out().ok();
+        }
+        cut
+    }
+
     /// Cuts with all three; gives lengths and frames if there are any.
     fn check(&self, trial: &mut Trial, bed: &mut Bed) -> Option<Joining> {
         let mut out = vec![DIRT; self.room];
@@ -69,14 +110,7 @@ impl Cutting {
         bed.message.assert_holds(&self.message, what);
         self.check_safe(wanted, &out, &lengths);
         let made = wanted.ok()?;
-        out.truncate(made.bytes);
-        lengths.truncate(made.frames);
-        Some(Joining {
-            form: self.form,
-            lengths,
-            frames: out,
-            room: self.message.len(),
-        })
+        Some(self.joining(made, out, lengths))
     }
 
     fn raw(&self, bed: &mut Bed) -> u64 {
@@ -320,8 +354,8 @@ fn some_cutting(random: &mut Random) -> Cutting {
         room: 8192,
         places: 600,
     };
-    let needed = cutting.plain(&mut [0; 8192], &mut [0; 600]);
-    let (bytes, frames) = needed.map_or((160, 2), |made| (made.bytes, made.frames));
+    let needed = cutting.laid_out();
+    let (bytes, frames) = needed.map_or((160, 2), |made| (made.frames.len(), made.lengths.len()));
     cutting.room = match random.below(8) {
         0 => bytes - 1,
         1 => random.below(bytes),
@@ -335,11 +369,13 @@ fn some_cutting(random: &mut Random) -> Cutting {
     cutting
 }
 
+/// In a long form what was cut comes back, in the short one what the layout makes; and both are
+/// joined after changes.
 fn cut_and_changed(trial: &mut Trial) {
     let mut bed = Bed::new();
     for _ in 0..trial.times(60_000, 300_000) {
         let cutting = some_cutting(&mut trial.random);
-        let Some(good) = cutting.check(trial, &mut bed) else {
+        let Some(good) = cutting.check_to_join(trial, &mut bed) else {
             continue;
         };
         let back = good.check(trial, &mut bed);
@@ -358,7 +394,7 @@ fn cut_and_changed(trial: &mut Trial) {
 }
 
 /// Each number of a form, 256 of them: a message that makes a different number of frames in most
-/// of the 18 that are forms, and comes back.
+/// of the 18 that are forms, and comes back. Of these only the short form is not cut but laid out.
 fn every_form(trial: &mut Trial) {
     let mut bed = Bed::new();
     let start = Start {
@@ -375,7 +411,7 @@ fn every_form(trial: &mut Trial) {
             room: 2000,
             places: 200,
         };
-        let made = cutting.check(trial, &mut bed);
+        let made = cutting.check_to_join(trial, &mut bed);
         assert_eq!(made.is_some(), form <= 17, "form {form}");
         let frames = made.unwrap_or(Joining {
             form,
@@ -393,7 +429,8 @@ fn every_form(trial: &mut Trial) {
     }
 }
 
-/// Each length in each form comes back; in the long setting all of them.
+/// Each length in each form comes back, cut in the long forms and laid out in the short one; in the
+/// long setting all of them.
 fn every_length(trial: &mut Trial) {
     let mut bed = Bed::new();
     let start = Start {
@@ -413,7 +450,9 @@ fn every_length(trial: &mut Trial) {
                 room: 6200,
                 places: 600,
             };
-            if let Some(joining) = cutting.check(trial, &mut bed) {
+            let joining = cutting.check_to_join(trial, &mut bed);
+            assert_eq!(joining.is_some(), length <= 4096, "{cutting:?}");
+            if let Some(joining) = joining {
                 let back = joining.check(trial, &mut bed);
                 assert_eq!(back, Ok(cutting.message));
             }
@@ -421,7 +460,7 @@ fn every_length(trial: &mut Trial) {
     }
 }
 
-/// Frames in a good run, each of any size, M as given to each.
+/// Frames in a good run by the layout, each of any size, M as given to each.
 fn run_of_frames(random: &mut Random, form: u8, count: usize, most: usize) -> Joining {
     let plain_form = Form::from_number(form).expect("a form");
     let largest = plain_form.sizes().expect("a form").largest;
@@ -442,7 +481,7 @@ fn run_of_frames(random: &mut Random, form: u8, count: usize, most: usize) -> Jo
         };
         let length = random.below(most.min(largest - 3) + 1);
         let (user, mut out) = (random.bytes(length), [0; 160]);
-        let made = frame::write(plain_form, &packet, &user, &mut out).expect("it fits");
+        let made = frame::lay_out(plain_form, &packet, &user, &mut out).expect("it fits");
         joining.frames.extend(&out[..made]);
         joining.lengths.push(made);
         joining.room += length;
@@ -450,11 +489,11 @@ fn run_of_frames(random: &mut Random, form: u8, count: usize, most: usize) -> Jo
     joining
 }
 
-/// Runs of short frames, and runs that carry about as much as a message may.
+/// Runs of few frames, and runs that carry about as much as a message may.
 fn frames_of_any_size(trial: &mut Trial) {
     let mut bed = Bed::new();
     for _ in 0..trial.times(8_000, 60_000) {
-        let form = trial.random.pick(&[0, 17, 17, 1, 2, 8, 16]);
+        let form = trial.random.pick(&[SHORT, 17, 17, 1, 2, 8, 16]);
         let count = 1 + trial.random.below(6);
         let good = run_of_frames(&mut trial.random, form, count, 160);
         assert!(good.check(trial, &mut bed).is_ok());
@@ -462,9 +501,15 @@ fn frames_of_any_size(trial: &mut Trial) {
         changed.change(&mut trial.random);
         let _ = changed.check(trial, &mut bed);
     }
-    for _ in 0..trial.times(300, 3_000) {
-        let count = 50 + trial.random.below(9);
-        let mut long = run_of_frames(&mut trial.random, 17, count, 149);
+    for turn in 0..trial.times(600, 6_000) {
+        // In the short form SN goes round five times and more.
+        let (form, fewest) = if turn % 2 == 0 {
+            (17, 50)
+        } else {
+            (SHORT, 324)
+        };
+        let count = fewest + trial.random.below(9);
+        let mut long = run_of_frames(&mut trial.random, form, count, 149);
         // Half the runs carry over 4,096 bytes; some lack room as well, or break late.
         if trial.random.one_in(3) {
             long.room = trial.random.below(long.room);
@@ -473,32 +518,14 @@ fn frames_of_any_size(trial: &mut Trial) {
         long.change(&mut trial.random);
         let _ = long.check(trial, &mut bed);
     }
-    at_the_longest(trial, &mut bed);
+    at_the_longest(trial, &mut bed, 17, 100);
+    at_the_longest(trial, &mut bed, SHORT, 20);
 }
 
-/// 4,096 and 4,097 bytes in frames that are not full.
-fn at_the_longest(trial: &mut Trial, bed: &mut Bed) {
+/// 4,096 and 4,097 bytes in frames that are not full but carry so many each.
+fn at_the_longest(trial: &mut Trial, bed: &mut Bed, form: u8, share: usize) {
     for total in 4094..=4098 {
-        let mut joining = Joining {
-            form: 17,
-            lengths: Vec::new(),
-            frames: Vec::new(),
-            room: total,
-        };
-        for index in 0..41u8 {
-            let packet = Packet::Data {
-                m: index < 40,
-                sn: index,
-                ps: index % 16,
-                pr: 0,
-                ch: 1,
-            };
-            let length = if index < 40 { 100 } else { total - 4000 };
-            let (user, mut out) = (trial.random.bytes(length), [0; 160]);
-            let made = frame::write(Form::LongUplink, &packet, &user, &mut out).expect("it fits");
-            joining.frames.extend(&out[..made]);
-            joining.lengths.push(made);
-        }
+        let mut joining = run_that_carries(&mut trial.random, form, share, total);
         let wanted = if total > 4096 { Err(4) } else { Ok(total) };
         for room in [total, total - 1, 0] {
             joining.room = room;
@@ -511,6 +538,34 @@ fn at_the_longest(trial: &mut Trial, bed: &mut Bed) {
             assert_eq!(by_number(got), wanted);
         }
     }
+}
+
+/// A good run by the layout: so many bytes in each frame, the rest of the total in the last.
+fn run_that_carries(random: &mut Random, form: u8, share: usize, total: usize) -> Joining {
+    let plain_form = Form::from_number(form).expect("a form");
+    let mut joining = Joining {
+        form,
+        lengths: Vec::new(),
+        frames: Vec::new(),
+        room: total,
+    };
+    let message = random.bytes(total);
+    let frames = message.chunks(share);
+    let last = frames.len() - 1;
+    for (index, user) in frames.enumerate() {
+        let packet = Packet::Data {
+            m: index < last,
+            sn: (index % 64) as u8,
+            ps: (index % 16) as u8,
+            pr: 0,
+            ch: 1,
+        };
+        let mut out = [0; 160];
+        let made = frame::lay_out(plain_form, &packet, user, &mut out).expect("it fits");
+        joining.frames.extend(&out[..made]);
+        joining.lengths.push(made);
+    }
+    joining
 }
 
 /// Inputs that deserve several refusals, by the numbers that the rules put first.
@@ -533,6 +588,12 @@ fn several_refusals(trial: &mut Trial) {
         (17, start, 150, 170, 1, 5),
         (17, start, 150, 169, 2, 5),
         (16, start, 158, 170, 1, 5),
+        (SHORT, wide, 5000, 0, 0, 1), // in the short form as well
+        (SHORT, start, 5000, 0, 0, 23),
+        (SHORT, start, 4096, 0, 0, 23),
+        (SHORT, start, 26, 35, 1, 23),
+        (SHORT, start, 26, 34, 2, 23),
+        (SHORT, start, 26, 35, 2, 23),
     ] {
         let cutting = Cutting {
             form,
@@ -541,11 +602,42 @@ fn several_refusals(trial: &mut Trial) {
             room,
             places,
         };
-        let refusal = cutting.plain(&mut vec![0; room], &mut vec![0; places]);
-        assert_eq!(refusal.unwrap_err().number(), number, "{cutting:?}");
-        assert!(cutting.check(trial, &mut bed).is_none());
+        cutting.check_refused(trial, &mut bed, number);
     }
     joining_several_refusals(trial, &mut bed);
+}
+
+/// The short form together with everything else that a cutting is refused for: every value of each
+/// number that goes on the frames, messages around one and two shares of 25 bytes and around the
+/// longest, room and places of which either, both or none are enough. 23 comes after 1, and before
+/// 4 and 5.
+fn short_with_other_refusals(trial: &mut Trial) {
+    let mut bed = Bed::new();
+    let largest: [u8; 4] = [63, 15, 15, 15];
+    for (at, value) in (0..4).flat_map(|at| (0..=255).map(move |value| (at, value))) {
+        let mut numbers = largest;
+        numbers[at] = value;
+        let [sn, ps, pr, ch] = numbers;
+        let start = Start { sn, ps, pr, ch };
+        let number = if value <= largest[at] { 23 } else { 1 };
+        // All lengths at the ends of the fields, few elsewhere: the long ones take their time.
+        let lengths = match value.abs_diff(largest[at]) {
+            0 | 1 => &[0, 1, 25, 26, 50, 51, 1300, 4096, 4097, 5000][..],
+            _ => &[0, 26],
+        };
+        for &length in lengths {
+            for (room, places) in [(0, 0), (7, 1), (6, 600), (6200, 0), (6200, 600)] {
+                let cutting = Cutting {
+                    form: SHORT,
+                    start,
+                    message: vec![3; length],
+                    room,
+                    places,
+                };
+                cutting.check_refused(trial, &mut bed, number);
+            }
+        }
+    }
 }
 
 /// Three frames of ten bytes, SN and PS 63, 0, 1 and 15, 0, 1; changed at some places.
@@ -562,6 +654,30 @@ fn three(changes: &[(usize, u8)]) -> Vec<u8> {
         frames[at] = byte;
     }
     frames
+}
+
+/// Two frames of the short form, SN and PS 63, 0 and 15, 0; changed at some places.
+fn short(changes: &[(usize, u8)]) -> Vec<u8> {
+    let mut frames = vec![0xFF, 0xF0, 4, 1, 0, 0, 0, 0x80, 0, 4, 1, 0, 0, 0];
+    for &(at, byte) in changes {
+        frames[at] = byte;
+    }
+    frames
+}
+
+/// A form, lengths, frames and room, and the number with which joining refuses them.
+type Refused = (u8, Vec<usize>, Vec<u8>, usize, u8);
+
+/// Runs in the short form: joining refuses them as it does those in a long one.
+fn short_cases() -> [Refused; 6] {
+    [
+        (SHORT, vec![7; 2], short(&[]), 1, 5),
+        (SHORT, vec![7; 2], short(&[(0, 0xBF)]), 0, 3), // M 0 before the last
+        (SHORT, vec![7; 2], short(&[(7, 0x81)]), 0, 17),
+        (SHORT, vec![7; 2], short(&[(7, 0xC0)]), 0, 2), // M 1 on the last
+        (SHORT, vec![7; 2], short(&[(13, 1)]), 0, 3),   // padding
+        (SHORT, vec![10, 4], short(&[]), 0, 2),
+    ]
 }
 
 fn joining_several_refusals(trial: &mut Trial, bed: &mut Bed) {
@@ -588,9 +704,9 @@ fn joining_several_refusals(trial: &mut Trial, bed: &mut Bed) {
         ), // not DATA
         (17, tens.clone(), three(&[]), 2, 5),
         (1, vec![20, 10], three(&[(10, 0)]), 0, 13), // too long before no room
-        (0, tens, three(&[(0, 0)]), 0, 2),           // no whole segments before first bits
+        (SHORT, tens, three(&[(0, 0)]), 0, 2),       // no whole segments before first bits
     ];
-    for (form, lengths, frames, room, number) in cases {
+    for (form, lengths, frames, room, number) in cases.into_iter().chain(short_cases()) {
         let joining = Joining {
             form,
             lengths,

@@ -1,6 +1,7 @@
 //! End to end, through the safe crate: messages cut one after the other, their frames in any
 //! order that the window allows and any number of times, with refused calls between, come out
-//! of the resequencer and of joining as they went in.
+//! of the resequencer and of joining as they went in. In the short form messages are received only:
+//! `plain` lays out the frames, which cutting refuses to make.
 
 use pepperknoll::{
     cut, join, read_frame, Form, LinkNumber, Outcome, Packet, PacketNumber, Refusal, Resequencer,
@@ -38,7 +39,7 @@ fn carry(random: &mut Random) {
     assert_eq!(joined(form, &frames, &handed), messages);
 }
 
-/// The frames of all messages, each cut from the numbers after those of the one before.
+/// The frames of all messages, each made from the numbers after those of the one before.
 fn send(random: &mut Random, form: Form, messages: &[Vec<u8>]) -> Vec<Vec<u8>> {
     let mut frames: Vec<Vec<u8>> = Vec::new();
     let (ps, ch) = (random.below(16), random.byte() & 15);
@@ -49,16 +50,42 @@ fn send(random: &mut Random, form: Form, messages: &[Vec<u8>]) -> Vec<Vec<u8>> {
             pr: PacketNumber(random.byte() & 15),
             ch,
         };
-        let (mut out, mut lengths) = (vec![0; 10_000], vec![0; 600]);
-        let made = cut(form, start, message, &mut out, &mut lengths).unwrap();
-        let mut rest = &out[..made.bytes];
-        for &length in &lengths[..made.frames] {
-            let (frame, after) = rest.split_at(length);
-            frames.push(frame.to_vec());
-            rest = after;
-        }
+        frames.extend(frames_of(form, start, message));
     }
     frames
+}
+
+/// The frames of one message: cut in a long form, laid out in the short one.
+fn frames_of(form: Form, start: Start, message: &[u8]) -> Vec<Vec<u8>> {
+    let (mut out, mut lengths) = (vec![0; 10_000], vec![0; 600]);
+    let cut = cut(form, start, message, &mut out, &mut lengths).map(|made| made.frames);
+    let frames = match form {
+        Form::ShortUplink => {
+            assert_eq!(cut, Err(Refusal::ShortForm));
+            laid_out(start, message, &mut out, &mut lengths)
+        }
+        _ => cut.unwrap(),
+    };
+    let mut rest = &out[..];
+    let one = |&length| {
+        let (frame, after) = rest.split_at(length);
+        rest = after;
+        frame.to_vec()
+    };
+    lengths[..frames].iter().map(one).collect()
+}
+
+/// The frames of a message in the short form, as others may send them; answers how many.
+fn laid_out(start: Start, message: &[u8], out: &mut [u8], lengths: &mut [usize]) -> usize {
+    let start = plain::message::Start {
+        sn: start.sn.0,
+        ps: start.ps.0,
+        pr: start.pr.0,
+        ch: start.ch,
+    };
+    let form = plain::frame::Form::ShortUplink;
+    let made = plain::message::lay_out(form, start, message, out, lengths);
+    made.unwrap().frames
 }
 
 /// Lets the frames arrive until each has; gives the places of those handed on.

@@ -5,7 +5,7 @@ use mathlib.Core.Path.{sym, ap, _∙_}
 use lib.ListN.{length}
 use borrow.Author.Needs.{needs}
 use Rattle.frame.specs.declared.Packet.{Packet}
-use Rattle.frame.specs.Parts.{wholeHeader}
+use Rattle.frame.specs.Parts.{longHeader}
 use Rattle.frame.proofs.Headers.{wrote}
 use Rattle.frame.proofs.Numbers.{write-numbers}
 use Rattle.frame.proofs.write_frame.Statement.{statement}
@@ -27,7 +27,7 @@ returns c =
     let told = met c .packet .given .1 in
     let put = c .before .before .put in
     write-numbers (a .form) (a .packet) (a .user .now) (a .out .now) _ _
-    (wrote (a .form) (a .packet) (a .user .now) (a .out .now) _ _ _ (c .before .before .before .before .whole-header .ensures ∙ ap (λ (p : Packet). wholeHeader (a .form) p (length (a .user .now))) (sym told)) (put .ensures .0) (put .ensures .1 .0))
+    (wrote (a .form) (a .packet) (a .user .now) (a .out .now) _ _ _ (c .before .before .before .before .whole-header .ensures ∙ ap (λ (p : Packet). longHeader p (length (a .user .now))) (sym told)) (put .ensures .0) (put .ensures .1 .0))
 
 returns-2 : tie.Need-returns-2
 returns-2 c =
@@ -35,7 +35,7 @@ returns-2 c =
     let told = met-2 c .packet2 .given .1 in
     let put = c .before .before .put2 in
     write-numbers (a .form) (a .packet) (a .user .now) (a .out .now) _ _
-    (wrote (a .form) (a .packet) (a .user .now) (a .out .now) _ _ _ (c .before .before .before .before .whole-header2 .ensures ∙ ap (λ (p : Packet). wholeHeader (a .form) p (length (a .user .now))) (sym told)) (put .ensures .0) (put .ensures .1 .0))
+    (wrote (a .form) (a .packet) (a .user .now) (a .out .now) _ _ _ (c .before .before .before .before .whole-header2 .ensures ∙ ap (λ (p : Packet). longHeader p (length (a .user .now))) (sym told)) (put .ensures .0) (put .ensures .1 .0))
 
 returns-3 : tie.Need-returns-3
 returns-3 c =
@@ -43,7 +43,7 @@ returns-3 c =
     let told = met-3 c .packet3 .given .1 in
     let put = c .before .before .put3 in
     write-numbers (a .form) (a .packet) (a .user .now) (a .out .now) _ _
-    (wrote (a .form) (a .packet) (a .user .now) (a .out .now) _ _ _ (c .before .before .before .before .whole-header3 .ensures ∙ ap (λ (p : Packet). wholeHeader (a .form) p (length (a .user .now))) (sym told)) (put .ensures .0) (put .ensures .1 .0))
+    (wrote (a .form) (a .packet) (a .user .now) (a .out .now) _ _ _ (c .before .before .before .before .whole-header3 .ensures ∙ ap (λ (p : Packet). longHeader p (length (a .user .now))) (sym told)) (put .ensures .0) (put .ensures .1 .0))
 
 pub write-frame-spec : {M : Type 1} → statement M
 write-frame-spec =

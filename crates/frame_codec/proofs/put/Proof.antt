@@ -11,36 +11,38 @@ use lib.ListN.{length, drop, replicate}
 use borrow.Author.Needs.{needs}
 use borrow.Author.Tests.{leb-true}
 use Rattle.refusal.specs.declared.Refusal.{Refusal}
-use Rattle.refusal.specs.declared.Refusal.the-variants.{OutOfRange, PacketTooLong, OutputTooShort}
+use Rattle.refusal.specs.declared.Refusal.the-variants.{OutOfRange, PacketTooLong, OutputTooShort, ShortForm}
 use Rattle.refusal.specs.declared.Verdict.{Verdict}
 use Rattle.refusal.specs.declared.Verdict.the-variants.{Done, Refused}
 use Rattle.refusal.specs.Numbers.{check}
 use Rattle.refusal.proofs.Checks.{check-done}
 use Rattle.frame_fields.specs.Rows.{bytesOf}
 use Rattle.frame_form.specs.declared.Form.{Form}
-use Rattle.frame_form.specs.Forms.{segOf, mostOf, formValid}
+use Rattle.frame_form.specs.Forms.{longSegment, segOf, mostOf, formValid, isLong}
 use Rattle.frame_form.specs.Segments.{padding, frameLength}
 use Rattle.frame_codec.specs.declared.Header.{Header}
 use Rattle.frame_codec.specs.declared.Written.the-variants.{Done as WrittenDone, Refused as NotWritten}
 use Rattle.frame_codec.specs.Frames.{framed}
 use Rattle.frame_codec.specs.Writing.{writeVerdict, putVerdict, putOf, putOutput, writtenBy, outputBy}
 use Rattle.frame_fields.proofs.Rows.{bytes-length}
-use Rattle.frame_form.proofs.Forms.{segment-some}
+use Rattle.frame_form.proofs.Forms.{long-segment}
 use Rattle.frame_form.proofs.Segments.{padding-below, frame-some}
 use Rattle.frame_codec.proofs.Writing.{framed-length}
 use Rattle.frame_codec.proofs.Numbers.{put-numbers}
 use Rattle.frame_codec.proofs.put.Statement.{statement}
 use Rattle.frame_codec.proofs.put.Tie as tie
 
--- a packet that passes the checks has room
-write-room : (f : Form) (fits : Bool) (n room : ℕ) → writeVerdict f fits n room ≡ Done → frameLength (segOf f) n ≤ room
+-- a packet that passes the checks is written in a long form, and has room
+write-room : (f : Form) (fits : Bool) (n room : ℕ) → writeVerdict f fits n room ≡ Done → (segOf f ≡ longSegment) × (frameLength (segOf f) n ≤ room)
 unfolding writeVerdict
 write-room f fits n room e =
     let short = check (leb (frameLength (segOf f) n) room) OutputTooShort Done in
-    let long = check (leb n (mostOf f)) PacketTooLong short in
-    let p = check-done fits OutOfRange long (check-done (formValid f) OutOfRange (check fits OutOfRange long) e .1) .1 in
-    let q = check-done (leb (frameLength (segOf f) n) room) OutputTooShort Done (check-done (leb n (mostOf f)) PacketTooLong short p .1) in
-    leb-true (frameLength (segOf f) n) room (q .0)
+    let large = check (leb n (mostOf f)) PacketTooLong short in
+    let form = check (isLong f) ShortForm large in
+    let p = check-done fits OutOfRange form (check-done (formValid f) OutOfRange (check fits OutOfRange form) e .1) .1 in
+    let l = check-done (isLong f) ShortForm large p in
+    let q = check-done (leb (frameLength (segOf f) n) room) OutputTooShort Done (check-done (leb n (mostOf f)) PacketTooLong short (l .1) .1) in
+    (long-segment f (l .0), leb-true (frameLength (segOf f) n) room (q .0))
 
 module _ (form : Form) (head : Header) (user out : List ℕ) where
   -- written, with the padding of the form
@@ -75,24 +77,33 @@ start c = c .before .before .before .before .before
 abbrev checked : tie.After-slice-known2 → tie.After-check-put
 checked c = c .before .before .before .before .before .before
 
+-- the checks passed, so the padding is that of the form, and the frame has room
+passes : (c : tie.After-check-put) → let a = start c .args in putVerdict (a .form) (a .head) (length (a .user .now)) (length (a .out .now)) ≡ Done
+    → (c .before .long-padding .result ≡ padding (segOf (a .form)) (a .head .size + length (a .user .now)))
+    × (a .head .size + length (a .user .now) + c .before .long-padding .result ≤ length (a .out .now))
+passes c ok =
+    let a = start c .args in
+    let n = a .head .size + length (a .user .now) in
+    let w = write-room (a .form) (a .head .fits) n (length (a .out .now)) ok in
+    let pad = c .before .long-padding .ensures .0 ∙ ap (λ (seg : ℕ). padding seg n) (sym (w .0)) in
+    (pad, omega (arith, w .1, pad))
+
 put-frame-requires : tie.Need-put-frame-requires
 put-frame-requires c κs =
     let check-place = c .before .before .before in
     let a = start check-place .args in
-    let seg = segOf (a .form) in
     let n = a .head .size + length (a .user .now) in
-    let pad = check-place .before .padding .ensures .0 in
-    let room = write-room (a .form) (a .head .fits) n (length (a .out .now)) (sym (check-place .check-put .ensures) ∙ c .before .enum-told .given .1) in
-    let below = padding-below seg n (segment-some (a .form)) in
-    (omega (arith, pad, below), (λ some. omega (arith, pad, some, frame-some seg n (segment-some (a .form)) (omega (arith, pad, some)))), omega (arith, room, pad))
+    let pad = check-place .before .long-padding .ensures .0 in
+    let room = passes check-place (sym (check-place .check-put .ensures) ∙ c .before .enum-told .given .1) .1 in
+    let below = padding-below longSegment n (omega arith) in
+    (omega (arith, pad, below), (λ some. omega (arith, pad, some, frame-some longSegment n (omega arith) (omega (arith, pad, some)))), room)
 
 returns : tie.Need-returns
 returns c =
     let a = start (checked c) .args in
-    let pad = checked c .before .padding in
+    let ok = sym (checked c .check-put .ensures) ∙ c .before .before .before .before .enum-told .given .1 in
     put-numbers (a .form) (a .head) (a .user .now) (a .out .now) _ _
-    (done (a .form) (a .head) (a .user .now) (a .out .now) (pad .result) _
-    (sym (checked c .check-put .ensures) ∙ c .before .before .before .before .enum-told .given .1) (pad .ensures .0) (c .before .before .put-frame .ensures))
+    (done (a .form) (a .head) (a .user .now) (a .out .now) (checked c .before .long-padding .result) _ ok (passes (checked c) ok .0) (c .before .before .put-frame .ensures))
 
 returns-2 : tie.Need-returns-2
 returns-2 c =

@@ -6,7 +6,8 @@ use std::sync::{Mutex, PoisonError};
 use super::say;
 
 /// One call: the subject that tries it, the numbers it has to answer there, and those it has to
-/// answer where lists of other lengths are lent. 0 is done.
+/// answer where lists of other lengths are lent. 0 is done. It may answer no other number: 23
+/// belongs to writing and cutting, and would be a fault in reading and joining.
 struct Row {
     name: &'static str,
     home: &'static str,
@@ -46,9 +47,9 @@ calls! {
     ResequencerInOrder "pk_resequencer_in_order" "resequencer" [0, 14], [14];
     ResequencerArrive "pk_resequencer_arrive" "resequencer" [0, 14, 1, 5], [0, 14, 1, 5];
     ResequencerClockEnd "pk_resequencer_clock_end" "resequencer" [0, 14, 1, 5, 7], [0, 14, 1, 5, 7];
-    FrameWrite "pk_frame_write" "frames" [0, 1, 13, 5], [1];
+    FrameWrite "pk_frame_write" "frames" [0, 1, 23, 13, 5], [1, 23];
     FrameRead "pk_frame_read" "frames" [0, 1, 2, 3, 13, 5], [0, 1, 2, 3, 13, 5];
-    MessageCut "pk_message_cut" "messages" [0, 1, 4, 5], [];
+    MessageCut "pk_message_cut" "messages" [0, 1, 23, 4, 5], [];
     MessageJoin "pk_message_join" "messages" [0, 1, 2, 3, 13, 17, 4, 5], [];
     TableEmpty "pk_table_empty" "routes" [0], [14];
     TableCodes "pk_table_codes" "routes" [0], [14];
@@ -61,7 +62,8 @@ calls! {
 /// The subject that lends lists of other lengths.
 const LENGTHS: &str = "lengths";
 const SUBJECTS: usize = 8;
-const NUMBERS: usize = 18;
+/// 23 is the largest refusal; 18 to 22 belong to calls that the header does not have.
+const NUMBERS: usize = 24;
 
 type Counts = [[u64; NUMBERS]; ROWS.len()];
 
@@ -156,8 +158,14 @@ fn table(counts: &Counts) -> String {
             .for_each(|(sum, count)| *sum += count);
     }
     text.push_str("each refusal over all calls:");
-    for (number, sum) in sums.iter().enumerate().skip(1) {
-        write!(text, " {number}:{sum}").unwrap();
+    for number in (1..NUMBERS).filter(|&number| listed(number as u8)) {
+        write!(text, " {number}:{}", sums[number]).unwrap();
     }
     text + "\n"
+}
+
+/// Whether any call may answer this number.
+fn listed(number: u8) -> bool {
+    let mut rows = ROWS.iter();
+    rows.any(|row| row.listed.contains(&number) || row.by_length.contains(&number))
 }

@@ -13,8 +13,8 @@ returns : tie.Need-returns
 returns c =
     let a = c .before .before .before .args in
     let p = Whole (a .self) in
-    header-from (a .form) p (a .user) _ _ (fits-lv p _ (a .user) refl (c .before .fits2 .ensures))
-    (c .header-number .ensures ∙ ap (headerOf p) (c .before .before .last-used .ensures .0))
+    header-from p (a .user) _ _ (fits-lv p _ (a .user) refl (c .before .fits2 .ensures))
+    (c .header-number .ensures ∙ ap (headerOf p) (c .before .before .long-last-used .ensures .0))
 
 pub whole-header-spec : {M : Type 1} → statement M
 whole-header-spec =

@@ -10,8 +10,9 @@ use lib.Seq.{drop-drop, length-take-le}
 use borrow.Author.Needs.{needs}
 use Rattle.refusal.specs.declared.Verdict.the-variants.{Done}
 use Rattle.frame_form.specs.declared.Form.{Form}
-use Rattle.frame_form.specs.Forms.{segOf}
+use Rattle.frame_form.specs.Forms.{longSegment}
 use Rattle.frame_form.specs.Segments.{frameLength}
+use Rattle.frame_form.proofs.Forms.{long-segment}
 use Rattle.frame.specs.declared.Packet.{Packet}
 use Rattle.frame.specs.declared.Packet.the-variants.{Data}
 use Rattle.frame.specs.Writing.{frameOf, frameVerdict, writeOutput}
@@ -22,28 +23,29 @@ use Rattle.message.proofs.cutting.put_one.Statement.{statement}
 use Rattle.message.proofs.cutting.put_one.Tie as tie
 
 module _ (form : Form) (q : Packet) (u o : List ℕ) (p i places : ℕ) (r : Ready form q (length u) p (length o) i places) where
-  size : length (frameOf form q u) ≡ frameLength (segOf form) (3 + length u)
-  size = frame-length form q u ∙ ap (λ (x : ℕ). frameLength (segOf form) (x + length u)) (r .header)
+  size : length (frameOf form q u) ≡ frameLength longSegment (3 + length u)
+  size = frame-length form q u ∙ ap₂ (λ (seg x : ℕ). frameLength seg (x + length u)) (long-segment form (r .long)) (r .header)
 
   -- the frame fills the part of its length
-  part-filled : (part : List ℕ) → length part ≡ frameLength (segOf form) (3 + length u) → writeOutput form q u part ≡ frameOf form q u
+  part-filled : (part : List ℕ) → length part ≡ frameLength longSegment (3 + length u) → writeOutput form q u part ≡ frameOf form q u
   part-filled part e =
       let verdict : frameVerdict form q (length u) (length part) ≡ Done =
       accepts form q (length u) (length part)
       (record {
         good = r .good;
         fit = r .fit;
+        long = r .long;
         most = omega (arith, r .header, r .share, share-range form (r .good));
         room-enough = omega (arith, frame-length form q u, size, e);
       }) in
       let none : drop (length (frameOf form q u)) part ≡ [] = drop-of-length-le part {i = length (frameOf form q u)} (omega (arith, size, e)) in
       output-is form q u part verdict ∙ ap (λ (x : List ℕ). frameOf form q u ++ x) none ∙ append-nil (frameOf form q u)
 
-  put : (len : ℕ) (ys : List ℕ) → len ≡ frameLength (segOf form) (3 + length u) → ys ≡ writeOutput form q u (take (p + len - p) (drop p o))
+  put : (len : ℕ) (ys : List ℕ) → len ≡ frameLength longSegment (3 + length u) → ys ≡ writeOutput form q u (take (p + len - p) (drop p o))
       → take p o ++ (ys ++ drop (p + len - p) (drop p o)) ≡ splice p (frameOf form q u) o
   put len ys el ey =
       let part = take (p + len - p) (drop p o) in
-      let long : length part ≡ frameLength (segOf form) (3 + length u) =
+      let long : length part ≡ frameLength longSegment (3 + length u) =
       length-take-le (p + len - p) (drop p o) (simp length-drop (omega (arith, r .inside, el))) ∙ omega (arith, el) in
       let rest : drop (p + len - p) (drop p o) ≡ drop (p + length (frameOf form q u)) o =
       (let e : p + len - p ≡ length (frameOf form q u) = omega (arith, el, size) in ap (λ (x : ℕ). drop x (drop p o)) e ∙ drop-drop (length (frameOf form q u)) p o) in

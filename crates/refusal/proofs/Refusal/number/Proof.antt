@@ -1,45 +1,16 @@
--- `refusal::Refusal::number` meets its contract: in each arm the case is known, and `numberOf`
--- computes its number.
+-- `refusal::Refusal::number` meets its contract: every place is the number, but the last.
 -- Assumes nothing.
+use mathlib.Core.Path.{refl, sym, _∙_}
 use borrow.Author.Needs.{needs}
+use borrow.Author.Tests.{eq-eqb, ne-eqb}
 use Rattle.refusal.proofs.Refusal.number.Statement.{statement}
 use Rattle.refusal.proofs.Refusal.number.Tie as tie
 
+returns : tie.Need-returns
+returns c = sym (c .before .place .ensures ∙ rw (eq-eqb _ 18 (c .if1 .taken)) refl)
+
+returns-2 : tie.Need-returns-2
+returns-2 c = sym (c .before .place .ensures ∙ rw (ne-eqb _ 18 (c .if1 .left)) refl)
+
 pub number-spec : {M : Type 1} → statement M
-number-spec =
-    tie.close
-    (tie.spec
-    (λ c. search needs)
-    (λ c. search needs)
-    (λ c. search needs)
-    (λ c. search needs)
-    (λ c. search needs)
-    (λ c. search needs)
-    (λ c. search needs)
-    (λ c. search needs)
-    (λ c. search needs)
-    (λ c. search needs)
-    (λ c. search needs)
-    (λ c. search needs)
-    (λ c. search needs)
-    (λ c. search needs)
-    (λ c. search needs)
-    (λ c. search needs)
-    (λ c. search needs)
-    (λ c. rw (c .enum-told .given .1))
-    (λ c. rw (c .enum-told2 .given .1))
-    (λ c. rw (c .enum-told3 .given .1))
-    (λ c. rw (c .enum-told4 .given .1))
-    (λ c. rw (c .enum-told5 .given .1))
-    (λ c. rw (c .enum-told6 .given .1))
-    (λ c. rw (c .enum-told7 .given .1))
-    (λ c. rw (c .enum-told8 .given .1))
-    (λ c. rw (c .enum-told9 .given .1))
-    (λ c. rw (c .enum-told10 .given .1))
-    (λ c. rw (c .enum-told11 .given .1))
-    (λ c. rw (c .enum-told12 .given .1))
-    (λ c. rw (c .enum-told13 .given .1))
-    (λ c. rw (c .enum-told14 .given .1))
-    (λ c. rw (c .enum-told15 .given .1))
-    (λ c. rw (c .enum-told16 .given .1))
-    (λ c. rw (c .enum-told17 .given .1)))
+number-spec = tie.close (tie.spec (λ c κs. search needs) returns returns-2)

@@ -1,0 +1,115 @@
+-- When cutting answers 23, and that joining never does: the checks of each call, one by one.
+-- Assumes nothing.
+use mathlib.Core.Path.{_≡_, refl, sym, subst}
+use mathlib.Core.Bool.{Bool, true, false, cond, not, _&&_, _||_}
+use mathlib.Core.List.{List, [], _∷_}
+use mathlib.Core.Logic.{_≢_}
+use Prim.Native.Nat.{ℕ}
+use native.Mathlib.Omega.{arith}
+use lib.Dec.{leb, eqb}
+use lib.ListN.{length}
+use Rattle.refusal.specs.declared.Refusal.the-variants.{OutOfRange, Malformed, FormatError, MessageTooLong, OutputTooShort, RunBroken, ShortForm}
+use Rattle.refusal.specs.declared.Verdict.{Verdict}
+use Rattle.refusal.specs.declared.Verdict.the-variants.{Done, Refused}
+use Rattle.refusal.specs.Numbers.{verdictNumber, check, andThen}
+use Rattle.refusal.proofs.Checks.{check-never, then-never}
+use Rattle.lists.specs.Frames.{bytesIn, partsOf, sum, isNone}
+use Rattle.frame_form.specs.declared.Form.{Form}
+use Rattle.frame_form.specs.declared.Form.the-variants.{ShortUplink}
+use Rattle.frame_form.specs.Forms.{formValid, isLong}
+use Rattle.frame.specs.declared.Data.{Data}
+use Rattle.frame.specs.declared.MaybeData.{MaybeData}
+use Rattle.frame.specs.declared.MaybeData.the-variants.{Nothing, Data as SomeData}
+use Rattle.frame.specs.declared.Read.{Read}
+use Rattle.frame.specs.declared.Read.the-variants.{Packet as PacketRead, Refused as NotRead}
+use Rattle.frame.specs.Packets.{asData}
+use Rattle.frame.specs.Writing.{fits}
+use Rattle.frame.specs.Reading.{readNumber, readOf, dataIn}
+use Rattle.frame.proofs.Numbers.{read-not-short}
+use Rattle.message.specs.declared.cutting.Start.{Start}
+use Rattle.message.specs.declared.cutting.Cut.the-variants.{Refused as NotCut}
+use Rattle.message.specs.Cutting.{cutNumber, dataOf, framesOf, cutVerdict, cutBy, cutOf}
+use Rattle.message.specs.Joining.{joinedNumber, follows, dataVerdict, packetVerdict, turnVerdict, framesVerdict, messageIn, sizeVerdict, joinVerdict, joinBy, joinOf}
+use Rattle.message_claims.specs.Short.{ShortNotCut}
+
+-- ---- cutting
+
+-- the form is valid; then 1 and 23, before all others
+by-fit : (b : Bool) (frames : List (List ℕ)) → cutBy (check b OutOfRange (Refused ShortForm)) frames ≡ NotCut (cond b ShortForm OutOfRange)
+by-fit true frames = refl
+by-fit false frames = refl
+
+in-short : (s : Start) (message : List ℕ) (room places : ℕ) → cutOf ShortUplink s message room places ≡ NotCut (cond (fits (dataOf s false) 0) ShortForm OutOfRange)
+unfolding cutOf cutVerdict
+in-short s message room places = by-fit (fits (dataOf s false) 0) (framesOf ShortUplink s message)
+
+cut-never : (n : ℕ) (v : Verdict) (frames : List (List ℕ)) → 0 ≢ n → verdictNumber v ≢ n → cutNumber (cutBy v frames) ≢ n
+cut-never n Done frames zero h = zero
+cut-never n (Refused why) frames zero h = h
+
+in-long : (form : Form) (s : Start) (message : List ℕ) (room places : ℕ) → isLong form ≡ true → cutNumber (cutOf form s message room places) ≢ 23
+unfolding cutOf cutVerdict
+in-long form s message room places long =
+    let fs = framesOf form s message in
+    let r4 = check (leb (length fs) places) OutputTooShort Done in
+    let r3 = check (leb (length (bytesIn fs)) room) OutputTooShort r4 in
+    let r2 = check (leb (length message) 4096) MessageTooLong r3 in
+    let r1 = check (isLong form) ShortForm r2 in
+    let never-4 = check-never 23 (leb (length fs) places) OutputTooShort Done (λ e. omega arith) (λ e. omega arith) in
+    let never-3 = check-never 23 (leb (length (bytesIn fs)) room) OutputTooShort r4 (λ e. omega arith) never-4 in
+    let never-2 = check-never 23 (leb (length message) 4096) MessageTooLong r3 (λ e. omega arith) never-3 in
+    let never-1 : verdictNumber r1 ≢ 23 = subst (λ (b : Bool). verdictNumber (check b ShortForm r2) ≢ 23) (sym long) never-2 in
+    cut-never 23 (cutVerdict form s message room places) fs (λ e. omega arith)
+    (check-never 23 (formValid form) OutOfRange (check (fits (dataOf s false) 0) OutOfRange r1) (λ e. omega arith)
+    (check-never 23 (fits (dataOf s false) 0) OutOfRange r1 (λ e. omega arith) never-1))
+
+-- ---- joining
+
+data-never : (before : MaybeData) (last : Bool) (d : Data) → verdictNumber (dataVerdict before last d) ≢ 23
+unfolding dataVerdict
+data-never before last d =
+    let r2 = check (not (last && d .m)) Malformed Done in
+    check-never 23 (last || d .m) FormatError (check (follows before d) RunBroken r2) (λ e. omega arith)
+    (check-never 23 (follows before d) RunBroken r2 (λ e. omega arith)
+    (check-never 23 (not (last && d .m)) Malformed Done (λ e. omega arith) (λ e. omega arith)))
+
+packet-never : (before : MaybeData) (last : Bool) (found : MaybeData) → verdictNumber (packetVerdict before last found) ≢ 23
+packet-never before last Nothing = λ e. omega arith
+packet-never before last (SomeData d) = data-never before last d
+
+turn-never : (before : MaybeData) (last : Bool) (r : Read) → readNumber r ≢ 23 → verdictNumber (turnVerdict before last r) ≢ 23
+turn-never before last (PacketRead p place) h = packet-never before last (asData p)
+turn-never before last (NotRead why) h = h
+
+frames-never : (form : Form) (before : MaybeData) (fs : List (List ℕ)) → verdictNumber (framesVerdict form before fs) ≢ 23
+unfolding framesVerdict
+frames-never form before [] = λ e. omega arith
+frames-never form before (f ∷ fs) =
+    then-never 23 (turnVerdict before (isNone fs) (readOf form f)) (framesVerdict form (dataIn (readOf form f)) fs)
+    (turn-never before (isNone fs) (readOf form f) (read-not-short form f)) (frames-never form (dataIn (readOf form f)) fs)
+
+size-never : (n room : ℕ) → verdictNumber (sizeVerdict n room) ≢ 23
+size-never n room =
+    check-never 23 (leb n 4096) MessageTooLong (check (leb n room) OutputTooShort Done) (λ e. omega arith)
+    (check-never 23 (leb n room) OutputTooShort Done (λ e. omega arith) (λ e. omega arith))
+
+joined-never : (n : ℕ) (v : Verdict) (bytes : ℕ) → 0 ≢ n → verdictNumber v ≢ n → joinedNumber (joinBy v bytes) ≢ n
+joined-never n Done bytes zero h = zero
+joined-never n (Refused why) bytes zero h = h
+
+joining : (form : Form) (lengths bytes : List ℕ) (room : ℕ) → joinedNumber (joinOf form lengths bytes room) ≢ 23
+unfolding joinOf joinVerdict
+joining form lengths bytes room =
+    let fs = partsOf lengths bytes in
+    let n = length (messageIn form fs) in
+    let r3 = andThen (framesVerdict form Nothing fs) (sizeVerdict n room) in
+    let r2 = check (not (isNone lengths)) Malformed r3 in
+    let r1 = check (eqb (sum lengths) (length bytes)) Malformed r2 in
+    joined-never 23 (joinVerdict form lengths bytes room) n (λ e. omega arith)
+    (check-never 23 (formValid form) OutOfRange r1 (λ e. omega arith)
+    (check-never 23 (eqb (sum lengths) (length bytes)) Malformed r2 (λ e. omega arith)
+    (check-never 23 (not (isNone lengths)) Malformed r3 (λ e. omega arith)
+    (then-never 23 (framesVerdict form Nothing fs) (sizeVerdict n room) (frames-never form Nothing fs) (size-never n room)))))
+
+pub short-not-cut : ShortNotCut
+short-not-cut = record { in-short = in-short; in-long = in-long; joining = joining }
