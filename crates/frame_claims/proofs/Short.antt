@@ -8,34 +8,31 @@ use Prim.Native.Nat.{ℕ, _*_, _+_, _%_, _≤_}
 use native.Mathlib.Omega.{arith}
 use lib.Dec.{leb, eqb}
 use lib.ListN.{length, getD, drop}
-use Rattle.refusal.specs.declared.Refusal.the-variants.{OutOfRange, Malformed, FormatError, PacketTooLong, OutputTooShort, ShortForm}
+use Rattle.refusal.specs.declared.Refusal.the-variants.{OutOfRange, PacketTooLong, OutputTooShort, ShortForm}
 use Rattle.refusal.specs.declared.Verdict.{Verdict}
 use Rattle.refusal.specs.declared.Verdict.the-variants.{Done, Refused}
-use Rattle.refusal.specs.Numbers.{numberOf, verdictNumber, check, andThen}
+use Rattle.refusal.specs.Numbers.{numberOf, verdictNumber, check}
 use Rattle.refusal.proofs.Numbers.{number-range}
-use Rattle.refusal.proofs.Checks.{check-never, then-never}
+use Rattle.refusal.proofs.Checks.{check-never}
 use Rattle.frame_form.specs.declared.Form.{Form}
 use Rattle.frame_form.specs.declared.Form.the-variants.{ShortUplink}
 use Rattle.frame_form.specs.Forms.{segOf, mostOf, formValid, isLong, formAt}
-use Rattle.frame_form.specs.Segments.{frameLength, wholeSegments}
+use Rattle.frame_form.specs.Segments.{frameLength}
 use Rattle.frame_form.proofs.Forms.{at-short, long-at}
 use Rattle.frame_codec.specs.declared.Written.{Written}
 use Rattle.frame_codec.specs.declared.Written.the-variants.{Done as WrittenDone, Refused as NotWritten}
-use Rattle.frame_codec.specs.declared.SeenHeader.{SeenHeader}
-use Rattle.frame_codec.specs.Frames.{allZero}
 use Rattle.frame_codec.specs.Writing.{writtenNumber, writeVerdict, writtenBy}
-use Rattle.frame_codec.specs.Reading.{packetLength, lengthRight, shapeVerdict, contentVerdict, readVerdict}
 use Rattle.frame.specs.declared.Kind.{Kind}
 use Rattle.frame.specs.declared.Found.{Found}
 use Rattle.frame.specs.declared.Found.the-variants.{Known, Unknown}
 use Rattle.frame.specs.declared.Packet.{Packet}
 use Rattle.frame.specs.declared.Read.{Read}
 use Rattle.frame.specs.declared.Read.the-variants.{Packet as PacketRead, Refused as NotRead}
-use Rattle.frame.specs.Packets.{layoutOf, packetOf, kinds}
+use Rattle.frame.specs.Packets.{packetOf}
 use Rattle.frame.specs.Writing.{lengthOf, fits, frameVerdict, writeOf}
-use Rattle.frame.specs.Reading.{readNumber, firstNamed, seenIn, readOf, foundVerdict}
+use Rattle.frame.specs.Reading.{readNumber, readOf}
 use Rattle.frame.proofs.Numbers.{read-not-short}
-use Rattle.frame_bytes.specs.Stored.{packetBytes, kindAt, flagsFit, unusedZero, writtenAnswer, writeAnswerBy, writeAnswer, readAnswerBy, readAnswer}
+use Rattle.frame_bytes.specs.Stored.{kindAt, flagsFit, unusedZero, writtenAnswer, writeAnswerBy, writeAnswer, readAnswerBy, readAnswer}
 use Rattle.frame_claims.specs.Short.{ShortNotWritten, ShortBytesNotWritten}
 use Rattle.frame_claims.proofs.Bytes.{answer-of}
 

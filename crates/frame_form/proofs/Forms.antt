@@ -47,13 +47,12 @@ pub record Filled (form : Form) (k s r : ℕ) : Type 0 where
   pub product : (k + s - 1) * r ≤ 739677
   pub few : (k + s - 1) * r / 65536 * s ≤ 79
   pub hold : k ≤ (k + s - 1) * r / 65536 * s
-  pub rest : (k + s - 1) * r / 65536 * s - k ≤ 9
   pub over : (k + s - 1) * r / 65536 * s - k ≡ (segOf form - k % segOf form) % segOf form
 
 pub filled : (form : Form) (k s r : ℕ) → k < 70 → s ≡ segOf form → r ≡ 65535 / segOf form + 1 → Filled form k s r
-filled ShortUplink k s r h es er = rw (es, er) (record { product = omega arith; few = omega arith; hold = omega arith; rest = omega arith; over = omega arith })
-filled LongUplink k s r h es er = rw (es, er) (record { product = omega arith; few = omega arith; hold = omega arith; rest = omega arith; over = omega arith })
-filled (LongDownlink n) k s r h es er = rw (es, er) (record { product = omega arith; few = omega arith; hold = omega arith; rest = omega arith; over = omega arith })
+filled ShortUplink k s r h es er = rw (es, er) (record { product = omega arith; few = omega arith; hold = omega arith; over = omega arith })
+filled LongUplink k s r h es er = rw (es, er) (record { product = omega arith; few = omega arith; hold = omega arith; over = omega arith })
+filled (LongDownlink n) k s r h es er = rw (es, er) (record { product = omega arith; few = omega arith; hold = omega arith; over = omega arith })
 
 -- every segment size divides 70
 divides-seventy : (form : Form) → 70 % segOf form ≡ 0

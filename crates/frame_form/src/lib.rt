@@ -92,7 +92,6 @@ impl Form {
     // for every form, so a compiler can merge two calls with the same arguments.
     fn padding(self, n: usize) -> usize
         ensures { λ r. ⌜ r ≡ padding (segOf self) n ⌝ }
-        ensures few { λ r. ⌜ r ≤ 9 ⌝ }
     {
         let segment = self.segment();
         let past = n % 70;

@@ -10,7 +10,6 @@ use native.Mathlib.Omega.{arith}
 use lib.ListN.{length, take, drop}
 use lib.Seq.{take-at}
 use Rattle.refusal.specs.declared.Verdict.{Verdict}
-use Rattle.refusal.specs.declared.Verdict.the-variants.{Done}
 use Rattle.lists.specs.Lists.{over}
 use Rattle.frame_fields.specs.Rows.{AreBytes}
 use Rattle.frame_form.specs.declared.Form.{Form}

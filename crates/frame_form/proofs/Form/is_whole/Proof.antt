@@ -17,7 +17,7 @@ unfolding wholeSegments
 returns c =
     let a = c .before .before .args in
     simp (le-leb _ _ (c .before .if1 .taken))
-    (ap (λ (x : ℕ). eqb x 0) (c .padding .ensures .0) ∙ padding-zero (segOf (a .self)) (a .len) (segment-some (a .self)))
+    (ap (λ (x : ℕ). eqb x 0) (c .padding .ensures) ∙ padding-zero (segOf (a .self)) (a .len) (segment-some (a .self)))
 
 returns-2 : tie.Need-returns-2
 unfolding wholeSegments

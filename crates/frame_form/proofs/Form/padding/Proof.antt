@@ -20,7 +20,7 @@ unfolding padding
 returns c =
     let a = c .before .before .args in
     let seg = segOf (a .self) in
-    (known c .over ∙ ap (λ (x : ℕ). (seg - x) % seg) (past-seventy (a .self) (a .n)), known c .rest)
+    known c .over ∙ ap (λ (x : ℕ). (seg - x) % seg) (past-seventy (a .self) (a .n))
 
 pub padding-spec : {M : Type 1} → statement M
 padding-spec =
