@@ -9,7 +9,6 @@ use native.Mathlib.Omega.{arith}
 use lib.Dec.{leb, eqb}
 use lib.ListN.{length, getD, drop}
 use Rattle.refusal.specs.declared.Refusal.the-variants.{OutOfRange, PacketTooLong, OutputTooShort, ShortForm}
-use Rattle.refusal.specs.declared.Verdict.{Verdict}
 use Rattle.refusal.specs.declared.Verdict.the-variants.{Done, Refused}
 use Rattle.refusal.specs.Numbers.{numberOf, verdictNumber, check}
 use Rattle.refusal.proofs.Numbers.{number-range}
@@ -22,6 +21,7 @@ use Rattle.frame_form.proofs.Forms.{at-short, long-at}
 use Rattle.frame_codec.specs.declared.Written.{Written}
 use Rattle.frame_codec.specs.declared.Written.the-variants.{Done as WrittenDone, Refused as NotWritten}
 use Rattle.frame_codec.specs.Writing.{writtenNumber, writeVerdict, writtenBy}
+use Rattle.frame_codec.proofs.Numbers.{written-by}
 use Rattle.frame.specs.declared.Kind.{Kind}
 use Rattle.frame.specs.declared.Found.{Found}
 use Rattle.frame.specs.declared.Found.the-variants.{Known, Unknown}
@@ -47,13 +47,9 @@ in-short : (p : Packet) (user room : ℕ) → writeOf ShortUplink p user room �
 unfolding writeOf writeVerdict
 in-short p user room = by-fit (fits p user) (frameLength (segOf ShortUplink) (lengthOf p user))
 
-written-never : (n : ℕ) (v : Verdict) (len : ℕ) → 0 ≢ n → verdictNumber v ≢ n → writtenNumber (writtenBy v len) ≢ n
-written-never n Done len zero h = zero
-written-never n (Refused why) len zero h = h
-
 in-long : (form : Form) (p : Packet) (user room : ℕ) → isLong form ≡ true → writtenNumber (writeOf form p user room) ≢ 23
 unfolding writeOf writeVerdict
-in-long form p user room long =
+in-long form p user room long e =
     let n = lengthOf p user in
     let r = check (leb (frameLength (segOf form) n) room) OutputTooShort Done in
     let m = check (leb n (mostOf form)) PacketTooLong r in
@@ -61,8 +57,8 @@ in-long form p user room long =
     let never-m = check-never 23 (leb n (mostOf form)) PacketTooLong r (λ e. omega arith) never-r in
     let never-l : verdictNumber (check (isLong form) ShortForm m) ≢ 23 = subst (λ (b : Bool). verdictNumber (check b ShortForm m) ≢ 23) (sym long) never-m in
     let never-f = check-never 23 (fits p user) OutOfRange (check (isLong form) ShortForm m) (λ e. omega arith) never-l in
-    written-never 23 (frameVerdict form p user room) (frameLength (segOf form) n) (λ e. omega arith)
-    (check-never 23 (formValid form) OutOfRange (check (fits p user) OutOfRange (check (isLong form) ShortForm m)) (λ e. omega arith) never-f)
+    check-never 23 (formValid form) OutOfRange (check (fits p user) OutOfRange (check (isLong form) ShortForm m)) (λ e. omega arith) never-f
+    (sym (written-by (frameVerdict form p user room) (frameLength (segOf form) n) _ refl .0) ∙ e)
 
 pub short-not-written : ShortNotWritten
 short-not-written = record { in-short = in-short; in-long = in-long; reading = read-not-short }

@@ -17,13 +17,13 @@ use Rattle.message.specs.Cutting.{cutNumber, cutCount, cutBytes, framesO
 use Rattle.message.specs.Joining.{joinedNumber, joinedBytes, messageIn, joinVerdict, joinBy, joinOf, joinOutput}
 
 -- of an answer of cutting that is made of a verdict and the frames
-cut-by : (v : Verdict) (frames : List (List ℕ)) (r : Cut) → r ≡ cutBy v frames
+pub cut-by : (v : Verdict) (frames : List (List ℕ)) (r : Cut) → r ≡ cutBy v frames
     → (cutNumber r ≡ verdictNumber v) × ((cutCount r ≡ valueBy v (length frames)) × (cutBytes r ≡ valueBy v (length (bytesIn frames))))
 cut-by Done frames r e = (ap cutNumber e, (ap cutCount e, ap cutBytes e))
 cut-by (Refused why) frames r e = (ap cutNumber e, (ap cutCount e, ap cutBytes e))
 
 -- of an answer of joining that is made of a verdict and the message's length
-join-by : (v : Verdict) (n : ℕ) (r : Joined) → r ≡ joinBy v n → (joinedNumber r ≡ verdictNumber v) × (joinedBytes r ≡ valueBy v n)
+pub join-by : (v : Verdict) (n : ℕ) (r : Joined) → r ≡ joinBy v n → (joinedNumber r ≡ verdictNumber v) × (joinedBytes r ≡ valueBy v n)
 join-by Done n r e = (ap joinedNumber e, ap joinedBytes e)
 join-by (Refused why) n r e = (ap joinedNumber e, ap joinedBytes e)
 

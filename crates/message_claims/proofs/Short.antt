@@ -1,6 +1,6 @@
 -- When cutting answers 23, and that joining never does: the checks of each call, one by one.
 -- Assumes nothing.
-use mathlib.Core.Path.{_≡_, refl, sym, subst}
+use mathlib.Core.Path.{_≡_, refl, sym, _∙_, subst}
 use mathlib.Core.Bool.{Bool, true, false, cond, not, _&&_, _||_}
 use mathlib.Core.List.{List, [], _∷_}
 use mathlib.Core.Logic.{_≢_}
@@ -9,7 +9,6 @@ use native.Mathlib.Omega.{arith}
 use lib.Dec.{leb, eqb}
 use lib.ListN.{length}
 use Rattle.refusal.specs.declared.Refusal.the-variants.{OutOfRange, Malformed, FormatError, MessageTooLong, OutputTooShort, RunBroken, ShortForm}
-use Rattle.refusal.specs.declared.Verdict.{Verdict}
 use Rattle.refusal.specs.declared.Verdict.the-variants.{Done, Refused}
 use Rattle.refusal.specs.Numbers.{verdictNumber, check, andThen}
 use Rattle.refusal.proofs.Checks.{check-never, then-never}
@@ -29,7 +28,8 @@ use Rattle.frame.proofs.Numbers.{read-not-short}
 use Rattle.message.specs.declared.cutting.Start.{Start}
 use Rattle.message.specs.declared.cutting.Cut.the-variants.{Refused as NotCut}
 use Rattle.message.specs.Cutting.{cutNumber, dataOf, framesOf, cutVerdict, cutBy, cutOf}
-use Rattle.message.specs.Joining.{joinedNumber, follows, dataVerdict, packetVerdict, turnVerdict, framesVerdict, messageIn, sizeVerdict, joinVerdict, joinBy, joinOf}
+use Rattle.message.specs.Joining.{joinedNumber, follows, dataVerdict, packetVerdict, turnVerdict, framesVerdict, messageIn, sizeVerdict, joinVerdict, joinOf}
+use Rattle.message.proofs.Numbers.{cut-by, join-by}
 use Rattle.message_claims.specs.Short.{ShortNotCut}
 
 -- ---- cutting
@@ -43,13 +43,9 @@ in-short : (s : Start) (message : List ℕ) (room places : ℕ) → cutOf ShortU
 unfolding cutOf cutVerdict
 in-short s message room places = by-fit (fits (dataOf s false) 0) (framesOf ShortUplink s message)
 
-cut-never : (n : ℕ) (v : Verdict) (frames : List (List ℕ)) → 0 ≢ n → verdictNumber v ≢ n → cutNumber (cutBy v frames) ≢ n
-cut-never n Done frames zero h = zero
-cut-never n (Refused why) frames zero h = h
-
 in-long : (form : Form) (s : Start) (message : List ℕ) (room places : ℕ) → isLong form ≡ true → cutNumber (cutOf form s message room places) ≢ 23
 unfolding cutOf cutVerdict
-in-long form s message room places long =
+in-long form s message room places long e =
     let fs = framesOf form s message in
     let r4 = check (leb (length fs) places) OutputTooShort Done in
     let r3 = check (leb (length (bytesIn fs)) room) OutputTooShort r4 in
@@ -59,9 +55,9 @@ in-long form s message room places long =
     let never-3 = check-never 23 (leb (length (bytesIn fs)) room) OutputTooShort r4 (λ e. omega arith) never-4 in
     let never-2 = check-never 23 (leb (length message) 4096) MessageTooLong r3 (λ e. omega arith) never-3 in
     let never-1 : verdictNumber r1 ≢ 23 = subst (λ (b : Bool). verdictNumber (check b ShortForm r2) ≢ 23) (sym long) never-2 in
-    cut-never 23 (cutVerdict form s message room places) fs (λ e. omega arith)
-    (check-never 23 (formValid form) OutOfRange (check (fits (dataOf s false) 0) OutOfRange r1) (λ e. omega arith)
-    (check-never 23 (fits (dataOf s false) 0) OutOfRange r1 (λ e. omega arith) never-1))
+    check-never 23 (formValid form) OutOfRange (check (fits (dataOf s false) 0) OutOfRange r1) (λ e. omega arith)
+    (check-never 23 (fits (dataOf s false) 0) OutOfRange r1 (λ e. omega arith) never-1)
+    (sym (cut-by (cutVerdict form s message room places) fs _ refl .0) ∙ e)
 
 -- ---- joining
 
@@ -93,23 +89,19 @@ size-never n room =
     check-never 23 (leb n 4096) MessageTooLong (check (leb n room) OutputTooShort Done) (λ e. omega arith)
     (check-never 23 (leb n room) OutputTooShort Done (λ e. omega arith) (λ e. omega arith))
 
-joined-never : (n : ℕ) (v : Verdict) (bytes : ℕ) → 0 ≢ n → verdictNumber v ≢ n → joinedNumber (joinBy v bytes) ≢ n
-joined-never n Done bytes zero h = zero
-joined-never n (Refused why) bytes zero h = h
-
 joining : (form : Form) (lengths bytes : List ℕ) (room : ℕ) → joinedNumber (joinOf form lengths bytes room) ≢ 23
 unfolding joinOf joinVerdict
-joining form lengths bytes room =
+joining form lengths bytes room e =
     let fs = partsOf lengths bytes in
     let n = length (messageIn form fs) in
     let r3 = andThen (framesVerdict form Nothing fs) (sizeVerdict n room) in
     let r2 = check (not (isNone lengths)) Malformed r3 in
     let r1 = check (eqb (sum lengths) (length bytes)) Malformed r2 in
-    joined-never 23 (joinVerdict form lengths bytes room) n (λ e. omega arith)
-    (check-never 23 (formValid form) OutOfRange r1 (λ e. omega arith)
+    check-never 23 (formValid form) OutOfRange r1 (λ e. omega arith)
     (check-never 23 (eqb (sum lengths) (length bytes)) Malformed r2 (λ e. omega arith)
     (check-never 23 (not (isNone lengths)) Malformed r3 (λ e. omega arith)
-    (then-never 23 (framesVerdict form Nothing fs) (sizeVerdict n room) (frames-never form Nothing fs) (size-never n room)))))
+    (then-never 23 (framesVerdict form Nothing fs) (sizeVerdict n room) (frames-never form Nothing fs) (size-never n room))))
+    (sym (join-by (joinVerdict form lengths bytes room) n _ refl .0) ∙ e)
 
 pub short-not-cut : ShortNotCut
 short-not-cut = record { in-short = in-short; in-long = in-long; joining = joining }
