@@ -1,5 +1,6 @@
 /* Checks every macro of pepperknoll.h, and pk_long_downlink, on answers of the library: that it
  * gives the right value, that it gives 0 after a refusal, and that it evaluates its argument once.
+ * Checks the two calls that give a position on worked examples as well, each beside the refusal.
  * Prints one line; ends with 1 at the first difference. */
 #include <limits.h>
 #include <stdio.h>
@@ -224,6 +225,45 @@ static void kinds(void)
          PK_FORMAT_ERROR);
 }
 
+/* Where frames are bad: how a frame begins, zeros after that, and its length. */
+static const struct {
+    uint8_t form, front[10];
+    size_t length;
+    uint8_t number;
+    size_t at;
+} bad[] = {
+    { PK_LONG_UPLINK, { 0x80, 0, 3 }, 10, PK_DONE, 0 },
+    { PK_NO_FORM, { 0x80, 0, 2 }, 10, PK_OUT_OF_RANGE, 0 },
+    { PK_LONG_UPLINK, { 0 }, 0, PK_MALFORMED, 0 },
+    { PK_LONG_UPLINK, { 0x80, 0, 3 }, 11, PK_MALFORMED, 11 },
+    { PK_LONG_UPLINK, { 0x59, 9, 0x32, 0x41, 0x8D, 0xA2, 7 }, 10, PK_FORMAT_ERROR, 0 },
+    { PK_LONG_UPLINK, { 0x58, 9, 0x32, 0x41, 0x8D, 0xA2, 0x47 }, 10, PK_FORMAT_ERROR, 6 },
+    { PK_LONG_UPLINK, { 0x58, 9, 0x32, 0x41, 0x8D, 0xA2, 6 }, 10, PK_FORMAT_ERROR, 6 },
+    { PK_LONG_UPLINK, { 0x80, 0, 2 }, 10, PK_FORMAT_ERROR, 2 },
+    { PK_LONG_UPLINK, { 0x80, 0, 3, 0, 0, 0, 0, 0, 0, 1 }, 10, PK_FORMAT_ERROR, 9 },
+    { PK_LONG_UPLINK, { 0x80, 0, 3, 0, 0, 1, 0, 0, 0, 1 }, 10, PK_FORMAT_ERROR, 5 },
+    { PK_LONG_UPLINK, { 0x5C, 9, 0x32, 0x41 }, 20, PK_FORMAT_ERROR, 10 },
+    { PK_LONG_UPLINK, { 0x5C, 9, 0x32, 0x41, 0, 0, 0, 0, 0, 1 }, 20, PK_FORMAT_ERROR, 9 },
+    { PK_SHORT_UPLINK, { 0x5C, 9, 0x32, 0x41 }, 14, PK_FORMAT_ERROR, 7 },
+    { PK_SHORT_UPLINK, { 0x80, 0, 1 }, 35, PK_PACKET_TOO_LONG, 28 },
+    { 1, { 0x80, 0, 3 }, 20, PK_PACKET_TOO_LONG, 10 },
+    { PK_LONG_UPLINK, { 0x80, 0, 3 }, 160, PK_PACKET_TOO_LONG, 152 },
+};
+
+static void frame_faults(void)
+{
+    uint64_t answer;
+    size_t i;
+
+    for (i = 0; i < sizeof bad / sizeof bad[0]; i++) {
+        memset(frames, 0, sizeof frames);
+        memcpy(frames, bad[i].front, sizeof bad[i].front);
+        answer = pk_frame_read(bad[i].form, frames, bad[i].length, packet, PK_PACKET_BYTES);
+        OF64(PK_NUMBER, answer, bad[i].number);
+        IS(pk_frame_fault(bad[i].form, frames, bad[i].length), bad[i].at);
+    }
+}
+
 static uint64_t cut(size_t bytes, size_t places)
 {
     return pk_message_cut(PK_LONG_UPLINK, 63, 15, 2, 4, message, bytes, frames, sizeof frames,
@@ -260,6 +300,58 @@ static void messages(void)
     OF64(PK_NUMBER, answer, PK_SHORT_FORM);
     OF64(PK_CUT_FRAMES, answer, 0);
     OF64(PK_CUT_BYTES, answer, 0);
+}
+
+/* So many frames and bytes of those in `frames`, to be joined into so much room. */
+static void joined(size_t count, size_t bytes, size_t room, uint8_t number, size_t at)
+{
+    uint64_t answer = pk_message_join(PK_LONG_UPLINK, lengths, count, frames, bytes, message, room);
+
+    OF64(PK_NUMBER, answer, number);
+    IS(pk_message_fault(PK_LONG_UPLINK, lengths, count, frames, bytes, room), at);
+}
+
+/* Three frames of 10 bytes, SN 63, 0, 1 and PS 15, 0, 1, each with one byte of user data. */
+static void three_frames(void)
+{
+    static const uint8_t front[][4] = {
+        { 0xFF, 0xF0, 4, 7 }, { 0xC0, 0, 4, 8 }, { 0x81, 0x10, 4, 9 },
+    };
+    size_t i;
+
+    memset(frames, 0, sizeof frames);
+    for (i = 0; i < 3; i++) {
+        memcpy(frames + 10 * i, front[i], sizeof front[i]);
+        lengths[i] = 10;
+    }
+}
+
+static void message_faults(void)
+{
+    static const uint8_t confirmation[] = { 0x5C, 9, 0x32, 0x41 };
+
+    three_frames();
+    joined(3, 30, 3, PK_DONE, 0);
+    joined(3, 30, 2, PK_OUTPUT_TOO_SHORT, 30);
+    joined(3, 29, 3, PK_MALFORMED, 29); /* the lengths don't sum */
+    joined(0, 0, 3, PK_MALFORMED, 0);
+    joined(2, 20, 3, PK_MALFORMED, 10); /* M of the last frame */
+    lengths[2] = 9;
+    joined(3, 29, 3, PK_MALFORMED, 29); /* no whole segments */
+    lengths[2] = 10;
+    frames[20] = 0x82;
+    joined(3, 30, 3, PK_RUN_BROKEN, 20);
+    frames[29] = 1;
+    joined(3, 30, 3, PK_FORMAT_ERROR, 29); /* padding, which is read before SN is compared */
+    frames[10] = 0x80;
+    joined(3, 30, 3, PK_FORMAT_ERROR, 10); /* M before the last frame */
+    IS(pk_message_fault(PK_NO_FORM, lengths, 3, frames, 30, 3), 0);
+    three_frames();
+    lengths[2] = 160;
+    joined(3, 180, 3, PK_PACKET_TOO_LONG, 20 + 152);
+    memcpy(frames + 20, confirmation, sizeof confirmation);
+    lengths[2] = 10;
+    joined(3, 30, 3, PK_FORMAT_ERROR, 20);
 }
 
 static uint32_t update(const uint8_t *list, size_t bytes, size_t places)
@@ -348,9 +440,12 @@ int main(void)
     resequencer();
     forms();
     kinds();
+    frame_faults();
     messages();
+    message_faults();
     routes();
     choice();
-    printf("bindings/c/accessors.c: %u values of the header's macros are right\n", checked);
+    printf("bindings/c/accessors.c: %u values of the header's macros and calls are right\n",
+           checked);
     return 0;
 }

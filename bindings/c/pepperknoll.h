@@ -7,8 +7,9 @@
  *
  * Answers. A call returns one number. Its low 8 bits are the refusal number, 0 for done (PK_NUMBER
  * below); the bits above hold the values that the call's comment names, each with a macro that is
- * named after the call. After a refusal they are 0. The four calls on sequence numbers are never
- * refused: their answer is the value itself. Every macro evaluates its argument once.
+ * named after the call. After a refusal they are 0. The four calls on sequence numbers and the two
+ * that give the position of a fault are never refused: their answer is the value itself. Every
+ * macro evaluates its argument once.
  *
  * Order. "Refused with 14, 1" means that 14 is checked before 1.
  *
@@ -178,6 +179,18 @@ uint64_t pk_frame_read(uint8_t form, const uint8_t *frame, size_t frame_len, uin
 #define PK_READ_USER_START(answer) ((size_t)((answer) >> 8 & 0xFF))
 #define PK_READ_USER_BYTES(answer) ((size_t)((answer) >> 16))
 
+/* Where a frame is bad: the byte position, from 0, of what pk_frame_read refuses the same frame
+ * for. The answer is the position itself, and nothing is written. Beside refusal
+ *    2  the frame's length
+ *    3  the first byte in frame order that holds a wrong fixed field, fill, LV or padding, or lies
+ *       past the one segment of a CLEAR CONFIRMATION. It is 0 for the first bits of no known
+ *       packet, and the header's last byte for a wrong LV (2 in DATA, 6 in CLEAR REQUEST), which
+ *       leaves open where padding would begin
+ *   13  the form's largest size: 28, 10 times the segments of a long downlink, 152
+ * It is 0 beside 1, and if the frame reads; that includes a 5 of pk_frame_read, which is not known
+ * here. `frame` is not NULL, even with length 0. */
+size_t pk_frame_fault(uint8_t form, const uint8_t *frame, size_t frame_len);
+
 /* ---- messages of 0 to 4,096 bytes */
 
 /* Cuts a message into DATA frames, written one after the other to `out`, their lengths to
@@ -196,6 +209,18 @@ uint64_t pk_message_cut(uint8_t form, uint8_t sn, uint8_t ps, uint8_t pr, uint8_
 uint64_t pk_message_join(uint8_t form, const size_t *lengths, size_t lengths_len,
                          const uint8_t *frames, size_t frames_len, uint8_t *out, size_t out_len);
 #define PK_JOIN_BYTES(answer) ((size_t)((answer) >> 8))
+
+/* Where frames are bad: the byte position, from 0 and within all of `frames`, of what
+ * pk_message_join refuses the same arguments for, with an output of `out_len` bytes; the output
+ * itself is not lent. The answer is the position itself, and nothing is written. For
+ *   a frame that does not read (2, 3, 13): the position that pk_frame_fault has for it, counted
+ *     from where the frame starts; so 2 gives the frame's end
+ *   a frame that is not DATA or has a wrong M (3 or 2), or that breaks the run (17): the frame's
+ *     first byte
+ *   lengths that don't sum to the data, no frames (2), 4, 5: the length of all the data
+ * It is 0 beside 1, and if the frames are joined. No list is NULL, even with length 0. */
+size_t pk_message_fault(uint8_t form, const size_t *lengths, size_t lengths_len,
+                        const uint8_t *frames, size_t frames_len, size_t out_len);
 
 /* ---- interrogators. Table: for each of the 256 ground addresses two bytes, the set of its codes
  * II as a word of 16 bits. */

@@ -1,5 +1,5 @@
 use crate::answer::{unknown, values};
-use crate::{raw, LinkNumber, PacketNumber, Refusal};
+use crate::{raw, LinkNumber, PacketNumber, Refusal, Refused};
 
 /// The form of a frame: it sets the segment's size and the largest packet.
 ///
@@ -7,8 +7,10 @@ use crate::{raw, LinkNumber, PacketNumber, Refusal};
 /// use pepperknoll::{read_frame, Form, Refusal};
 ///
 /// // No form has 17 segments: refused with 1, before anything is said of the frame.
-/// assert_eq!(read_frame(Form::LongDownlink(17), &[]), Err(Refusal::OutOfRange));
-/// assert_eq!(read_frame(Form::LongDownlink(16), &[]), Err(Refusal::Malformed));
+/// let refused = read_frame(Form::LongDownlink(17), &[]).unwrap_err();
+/// assert_eq!(refused.why, Refusal::OutOfRange);
+/// let refused = read_frame(Form::LongDownlink(16), &[]).unwrap_err();
+/// assert_eq!(refused.why, Refusal::Malformed);
 /// ```
 #[derive(Clone, Copy, Debug, PartialEq, Eq, Hash)]
 pub enum Form {
@@ -194,21 +196,23 @@ pub fn write_frame(
 }
 
 /// Reads a frame: its packet, and its user data as a part of the frame. Refused with 1, 2,
-/// 3, 13.
+/// 3, 13; the position is that of the first wrong byte for 3, the frame's length for 2, and the
+/// form's largest size for 13.
 ///
 /// ```
-/// use pepperknoll::{read_frame, Form, LinkNumber, Packet, Refusal};
+/// use pepperknoll::{read_frame, Form, LinkNumber, Packet, Refusal, Refused};
 ///
 /// let mut frame = *b"\x58\x09\x32\x41\x8D\xA2\x09hi\0";
 /// let (packet, user) = read_frame(Form::LongUplink, &frame)?;
 /// assert!(matches!(packet, Packet::ClearRequest { sn: LinkNumber(9), cc: 141, .. }));
 /// assert_eq!(user, b"hi");
 /// frame[9] = 1; // padding is 0
-/// assert_eq!(read_frame(Form::LongUplink, &frame), Err(Refusal::FormatError));
-/// # Ok::<(), Refusal>(())
+/// let refused = Refused { why: Refusal::FormatError, at: 9 };
+/// assert_eq!(read_frame(Form::LongUplink, &frame), Err(refused));
+/// # Ok::<(), Refused>(())
 /// ```
 #[inline]
-pub fn read_frame(form: Form, frame: &[u8]) -> Result<(Packet, &[u8]), Refusal> {
+pub fn read_frame(form: Form, frame: &[u8]) -> Result<(Packet, &[u8]), Refused> {
     let mut packet = [0; PACKET_BYTES];
     // SAFETY: each list is lent whole with its own length; the packet's array is new.
     let answer = unsafe {
@@ -220,7 +224,15 @@ pub fn read_frame(form: Form, frame: &[u8]) -> Result<(Packet, &[u8]), Refusal> 
             packet.len(),
         )
     };
-    let values = values(answer)?;
+    let values = values(answer).map_err(|why| refused(why, form, frame))?;
     let (start, length) = (usize::from(values as u8), (values >> 8) as usize);
     Ok((Packet::from_bytes(packet), &frame[start..][..length]))
+}
+
+/// The position is asked for here alone, so that a frame that reads does not pay for it.
+#[cold]
+fn refused(why: Refusal, form: Form, frame: &[u8]) -> Refused {
+    // SAFETY: the list is lent whole with its own length.
+    let at = unsafe { raw::pk_frame_fault(form.number(), frame.as_ptr(), frame.len()) };
+    Refused { why, at }
 }

@@ -11,9 +11,12 @@
 //! - [`Table`] keeps the interrogators of each ground address; [`choose`] picks one.
 //!
 //! A call that cannot be done is refused: it answers a [`Refusal`] and has changed neither the
-//! state nor any slice it was lent. A state owns its bytes, which may be stored and sent
-//! ([`Resequencer::as_bytes`], [`Resequencer::from_bytes`]); bytes that are no state in good
-//! order are refused by every call with [`Refusal::NotInOrder`].
+//! state nor any slice it was lent. [`read_frame`] and [`join`] answer a [`Refused`], the refusal
+//! with the position of the first fault.
+//!
+//! A state owns its bytes, which may be stored and sent ([`Resequencer::as_bytes`],
+//! [`Resequencer::from_bytes`]); bytes that are no state in good order are refused by every call
+//! with [`Refusal::NotInOrder`].
 //!
 //! Nothing allocates, blocks or reads a clock: timers live with the caller, and
 //! [`Resequencer::clocks`] says which run.
@@ -44,7 +47,7 @@ mod window;
 pub use frame::{read_frame, write_frame, Form, Packet};
 pub use message::{cut, join, Cut, Start, LONGEST_MESSAGE};
 pub use number::{LinkNumber, PacketNumber};
-pub use refusal::{Clearing, Refusal};
+pub use refusal::{Clearing, Refusal, Refused};
 pub use resequencer::{Outcome, Resequencer, Tickets};
 pub use route::{choose, Lost, Table};
 pub use window::{Receiver, Sender};

@@ -1,5 +1,5 @@
 use crate::answer::values;
-use crate::{raw, Form, LinkNumber, PacketNumber, Refusal};
+use crate::{raw, Form, LinkNumber, PacketNumber, Refusal, Refused};
 
 /// The longest message, in bytes.
 pub const LONGEST_MESSAGE: usize = 4096;
@@ -86,15 +86,26 @@ pub fn cut(
 /// message that they carry; answers its length. Bytes of `out` beyond keep what they held.
 /// Refused with 1, 2, then frame by frame 2, 3, 13, 3, 17, 2, then 4, 5.
 ///
+/// The position is one in all of `frames`. For what a frame's reading is refused for, it is that
+/// of the read, counted from the frame's start; for a frame that reads it is the frame's first
+/// byte (not DATA, a wrong M, 17); for a wrong sum of lengths, no frames, 4 and 5 it is the length
+/// of `frames`.
+///
 /// ```
-/// use pepperknoll::{join, Form, Refusal};
+/// use pepperknoll::{join, Form, Refusal, Refused};
 ///
 /// let frames = *b"\xC5\x30\x05hi\0\0\0\0\0\x86\x40\x04!\0\0\0\0\0\0";
 /// let mut message = [0; 3];
 /// assert_eq!(join(Form::LongUplink, &[10, 10], &frames, &mut message), Ok(3));
 /// assert_eq!(&message, b"hi!");
 /// let first_only = join(Form::LongUplink, &[10], &frames[..10], &mut message);
-/// assert_eq!(first_only, Err(Refusal::Malformed)); // M = 1: more was to come
+/// let more_to_come = Refused { why: Refusal::Malformed, at: 0 }; // M = 1, in byte 0
+/// assert_eq!(first_only, Err(more_to_come));
+///
+/// let mut damaged = frames;
+/// damaged[19] = 1; // padding of the second frame
+/// let refused = join(Form::LongUplink, &[10, 10], &damaged, &mut message);
+/// assert_eq!(refused, Err(Refused { why: Refusal::FormatError, at: 19 }));
 /// ```
 #[inline]
 pub fn join(
@@ -102,7 +113,7 @@ pub fn join(
     lengths: &[usize],
     frames: &[u8],
     out: &mut [u8],
-) -> Result<usize, Refusal> {
+) -> Result<usize, Refused> {
     // SAFETY: each list is lent whole with its own length; `out` is borrowed alone, so it
     // overlaps nothing.
     let answer = unsafe {
@@ -116,5 +127,24 @@ pub fn join(
             out.len(),
         )
     };
-    values(answer).map(|length| length as usize)
+    values(answer)
+        .map(|length| length as usize)
+        .map_err(|why| refused(why, form, lengths, frames, out.len()))
+}
+
+/// The position is asked for here alone, so that frames that are joined do not pay for it.
+#[cold]
+fn refused(why: Refusal, form: Form, lengths: &[usize], frames: &[u8], out_len: usize) -> Refused {
+    // SAFETY: each list is lent whole with its own length.
+    let at = unsafe {
+        raw::pk_message_fault(
+            form.number(),
+            lengths.as_ptr(),
+            lengths.len(),
+            frames.as_ptr(),
+            frames.len(),
+            out_len,
+        )
+    };
+    Refused { why, at }
 }

@@ -61,6 +61,7 @@ extern "C" {
         packet: *mut u8,
         packet_len: usize,
     ) -> u64;
+    pub fn pk_frame_fault(form: u8, frame: *const u8, frame_len: usize) -> usize;
 
     pub fn pk_message_cut(
         form: u8,
@@ -84,6 +85,14 @@ extern "C" {
         out: *mut u8,
         out_len: usize,
     ) -> u64;
+    pub fn pk_message_fault(
+        form: u8,
+        lengths: *const usize,
+        lengths_len: usize,
+        frames: *const u8,
+        frames_len: usize,
+        out_len: usize,
+    ) -> usize;
 
     pub fn pk_table_empty(table: *mut u8, table_len: usize) -> u32;
     pub fn pk_table_codes(table: *const u8, table_len: usize, address: u8) -> u32;

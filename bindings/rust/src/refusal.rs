@@ -165,6 +165,77 @@ impl fmt::Display for Refusal {
 
 impl Error for Refusal {}
 
+/// Why a frame was not read or frames were not joined, and the byte position of the first fault.
+///
+/// The position is one in the frame that was to be read, or in all the data that was to be joined.
+/// It means something beside these refusals only, and is 0 beside any other:
+///
+/// - 3: the first byte, in frame order, that holds a wrong fixed field, fill, LV or padding, or
+///   lies past the one segment of a CLEAR CONFIRMATION.
+/// - 2: the length of the frame that is empty or no whole number of segments; in joining, where
+///   that frame ends.
+/// - 13: the form's largest size; in joining, counted from where the frame starts.
+/// - In joining, for 17, for a wrong M (3 or 2) and for a frame that is not DATA (3): the frame's
+///   first byte.
+/// - In joining, for lengths that do not sum to the data or no frames (2), for 4 and for 5: the
+///   length of all the data.
+///
+/// Where the position does not matter, `?` turns it into the [`Refusal`] alone.
+///
+/// ```
+/// use pepperknoll::{read_frame, Form, Refusal, Refused};
+///
+/// let lv_below_the_header = [0x80, 0, 2, 0, 0, 0, 0, 0, 0, 0];
+/// let refused = read_frame(Form::LongUplink, &lv_below_the_header).unwrap_err();
+/// assert_eq!(refused, Refused { why: Refusal::FormatError, at: 2 });
+/// assert_eq!(
+///     refused.to_string(),
+///     "a fixed field, fill, LV, padding byte or M is wrong (refusal 3) at byte 2"
+/// );
+/// assert_eq!(Refusal::from(refused), Refusal::FormatError);
+/// ```
+#[derive(Clone, Copy, Debug, PartialEq, Eq, Hash)]
+pub struct Refused {
+    /// Why the call was not done.
+    pub why: Refusal,
+    /// The position of the first fault, counted from 0.
+    pub at: usize,
+}
+
+impl Refused {
+    /// Whether the rules name a position beside this refusal.
+    const fn has_position(self) -> bool {
+        matches!(
+            self.why,
+            Refusal::Malformed
+                | Refusal::FormatError
+                | Refusal::MessageTooLong
+                | Refusal::OutputTooShort
+                | Refusal::PacketTooLong
+                | Refusal::RunBroken
+        )
+    }
+}
+
+impl fmt::Display for Refused {
+    fn fmt(&self, f: &mut fmt::Formatter<'_>) -> fmt::Result {
+        write!(f, "{} (refusal {})", self.why, self.why.number())?;
+        if self.has_position() {
+            write!(f, " at byte {}", self.at)?;
+        }
+        Ok(())
+    }
+}
+
+impl Error for Refused {}
+
+impl From<Refused> for Refusal {
+    #[inline]
+    fn from(refused: Refused) -> Self {
+        refused.why
+    }
+}
+
 #[cfg(test)]
 mod tests {
     use super::*;
@@ -197,5 +268,19 @@ mod tests {
     fn sentences_differ() {
         let sentences: HashSet<String> = Refusal::ALL.iter().map(Refusal::to_string).collect();
         assert_eq!(sentences.len(), Refusal::ALL.len());
+    }
+
+    #[test]
+    fn six_refusals_have_a_position() {
+        let with_position = |why: Refusal| {
+            let text = Refused { why, at: 4399 }.to_string();
+            assert!(text.starts_with(&format!("{why} (refusal {})", why.number())));
+            text.ends_with(" at byte 4399")
+        };
+        let numbers = Refusal::ALL
+            .into_iter()
+            .filter(|&why| with_position(why))
+            .map(Refusal::number);
+        assert_eq!(numbers.collect::<Vec<_>>(), [2, 3, 4, 5, 13, 17]);
     }
 }

@@ -77,7 +77,8 @@ fn several(call: u8, a: &mut [u8], b: &mut [u8], c: &mut [u8], values: &Values) 
         b'T' | b'U' => release(call, a, c, values) as u64,
         b'V' => capi::pk_frame_write(small(values, 1), a, b, c),
         b'W' => capi::pk_frame_read(small(values, 1), a, b),
-        b'X' | b'Y' => message(call, a, b, c, values),
+        b'X' | b'Y' | b'b' => message(call, a, b, c, values),
+        b'a' => capi::pk_frame_fault(small(values, 1), a) as u64,
         _ => capi::pk_table_update(a, b, c) as u64,
     }
 }
@@ -100,7 +101,7 @@ fn let_go(call: u8, state: &mut [u8], tickets: &mut [u16], values: &Values) -> u
     }
 }
 
-// The two calls on messages.
+// The calls on messages.
 fn message(call: u8, a: &[u8], b: &mut [u8], list: &mut [u8], values: &Values) -> u64 {
     let mut lengths = [0usize; 1024];
     let end = elements::read_lengths(list, &mut lengths);
@@ -113,6 +114,9 @@ fn cut_or_join(call: u8, a: &[u8], b: &mut [u8], lengths: &mut [usize], values: 
     let form = small(values, 1);
     if call == b'Y' {
         return capi::pk_message_join(form, lengths, a, b);
+    }
+    if call == b'b' {
+        return capi::pk_message_fault(form, lengths, a, large(values, 4) as usize) as u64;
     }
     let sn = small(values, 2);
     let ps = small(values, 3);

@@ -20,8 +20,8 @@ pub fn run(line: &[u8], number: u64, ending: &mut u8) {
 }
 
 // Looks the call up. A row has the call's name, the letter that it has in `calls`, the bytes of its
-// answer and its arguments in the header's order, in the letters that `arguments::read_one` lists.
-// A list in upper case may be written by the call, and is printed.
+// answer, 0 if that is a position, and its arguments in the header's order, in the letters that
+// `arguments::read_one` lists. A list in upper case may be written by the call, and is printed.
 fn find_call(line: &[u8], number: u64, ending: &mut u8) {
     let table: &[u8] = b"pk_link_distance A1nn\n\
         pk_link_next B1n\n\
@@ -48,7 +48,9 @@ fn find_call(line: &[u8], number: u64, ending: &mut u8) {
         pk_frame_read W8naB\n\
         pk_message_cut X8nnnnnaBL\n\
         pk_message_join Y8nlaB\n\
-        pk_table_update Z4AbC\n";
+        pk_table_update Z4AbC\n\
+        pk_frame_fault a0na\n\
+        pk_message_fault b0nlaw\n";
     let end = text::find(line, 0, line.len(), b' ');
     let start = text::row(table, &line[0..end]);
     if table.len() <= start {
@@ -85,7 +87,11 @@ fn answer(
 ) {
     if 1 < row.len() {
         let code = make_with(row[0], a, b, c, values);
-        print::code(code, text::digit(row[1]) as usize, ending);
+        if row[1] == b'0' {
+            print::position(code, ending);
+        } else {
+            print::code(code, text::digit(row[1]) as usize, ending);
+        }
         print_lists(row, a, b, c, values, ending);
         print::line_feed(ending);
     }

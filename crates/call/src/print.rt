@@ -60,3 +60,9 @@ pub fn code(code: u64, size: usize, ending: &mut u8) {
     elements::set_element(&mut memory, 0, text::least(size, 8), code as usize);
     list(&memory, size, 1, ending);
 }
+
+// An answer that is a position.
+pub fn position(at: u64, ending: &mut u8) {
+    bytes(b"at ", ending);
+    decimal(at, ending);
+}

@@ -1,22 +1,25 @@
 // The exported calls of `libpepperknoll.a`, for C, C++, Ada and Rust. Each calls a function of
-// `sequence` or of a crate named `.._bytes` and has the same contract; bindings/c/pepperknoll.h
-// describes the calls to C programmers. A list is lent as a pointer and a length.
+// `sequence`, `frame_reader`, `frame_writer` or of a crate named `.._bytes` and has the same
+// contract; bindings/c/pepperknoll.h describes the calls to C programmers. A list is lent as a
+// pointer and a length.
 //
-// A call answers one number. Its low 8 bits are the refusal number of document 01, 0 for done; the
-// bits above them hold the values that the call's comment names, which are 0 after a refusal. A
-// refused call leaves every lent byte as it was. "Refused with 14, 1" means that 14 is checked
-// before 1. Refusal 14 is given for a state or a table that has another length or is not in good
-// order, and for nothing else. A list for results that has fewer places than the call writes is
-// refused with 5; places past those keep what they held.
+// A call answers one number, but for those whose comment says otherwise. Its low 8 bits are the
+// refusal number of document 01, 0 for done; the bits above them hold the values that the call's
+// comment names, which are 0 after a refusal. A refused call leaves every lent byte as it was.
+// "Refused with 14, 1" means that 14 is checked before 1. Refusal 14 is given for a state or a
+// table that has another length or is not in good order, and for nothing else. A list for results
+// that has fewer places than the call writes is refused with 5; places past those keep what they
+// held.
 ghost use mathlib.Core.Path.{_≡_};
 ghost use lib.ListN.{length};
 ghost use Rattle.sequence.specs.Modular.{distance, next};
 ghost use Rattle.window_bytes.specs.Stored.{freshSenderAnswer, freshSenderBytes, senderOrderAnswer, sendAnswer, sendBytes, acknowledgeAnswer, acknowledgeBytes, freshReceiverAnswer, freshReceiverBytes, receiverOrderAnswer, receiveAnswer, receiveBytes, tellAnswer, tellBytes};
 ghost use Rattle.resequencer_bytes.specs.Stored.{freshAnswer, freshBytes, orderAnswer, arriveAnswer, arriveBytes, arriveTickets, clockEndAnswer, clockEndBytes, clockEndTickets};
 ghost use Rattle.frame_form.specs.Forms.{formAt};
-ghost use Rattle.frame_bytes.specs.Stored.{writeAnswer, writeBytes, readAnswer, readBytes};
+ghost use Rattle.frame_writer.specs.Writing.{writeAnswer, writeBytes};
+ghost use Rattle.frame_reader.specs.Reading.{faultAnswer, readAnswer, readBytes};
 ghost use Rattle.message.specs.Cutting.{cutOf, cutOutput, cutLengths};
-ghost use Rattle.message.specs.Joining.{joinOf, joinOutput};
+ghost use Rattle.message.specs.Joining.{joinedPosition, joinOf, joinOutput};
 ghost use Rattle.message_bytes.specs.Answers.{startAt, cutAnswer, joinedAnswer};
 ghost use Rattle.route_bytes.specs.Stored.{emptyAnswer, emptyBytes, codesAnswer, countAnswer, chooseAnswer, chooseAmongAnswer, updateAnswer, updateBytes, updateLost};
 use sequence::LinkNumber;
@@ -201,7 +204,7 @@ pub extern "C" fn pk_frame_write(form: u8, packet: &[u8], user: &[u8], out: &mut
     ensures { λ r. ⌜ r ≡ writeAnswer form (now (packet .entry)) (length (now (user .entry))) (length (now (out .entry))) ⌝ }
     ensures { λ _. ⌜ now (out .exit) ≡ writeBytes form (now (packet .entry)) (now (user .entry)) (now (out .entry)) ⌝ }
 {
-    frame_bytes::write(form, packet, user, out)
+    frame_writer::write(form, packet, user, out)
 }
 
 // Reads a frame and writes its packet to the first 10 bytes of `packet`. Bits 8 to 15 are the index
@@ -212,7 +215,18 @@ pub extern "C" fn pk_frame_read(form: u8, frame: &[u8], packet: &mut [u8]) -> u6
     ensures { λ r. ⌜ r ≡ readAnswer form (now (frame .entry)) (length (now (packet .entry))) ⌝ }
     ensures { λ _. ⌜ now (packet .exit) ≡ readBytes form (now (frame .entry)) (now (packet .entry)) ⌝ }
 {
-    frame_bytes::read(form, frame, packet)
+    frame_reader::read(form, frame, packet)
+}
+
+// Where a frame is bad: answers the position in `frame` of what `pk_frame_read` refuses it for, and
+// no refusal number. For 2 it is the frame's length, for 3 the first byte with a wrong fixed field,
+// fill, LV or padding or past the segments of a packet without LV, for 13 the form's largest size;
+// 0 for 1, and if the frame reads.
+#[no_mangle]
+pub extern "C" fn pk_frame_fault(form: u8, frame: &[u8]) -> usize
+    ensures { λ r. ⌜ r ≡ faultAnswer form (now (frame .entry)) ⌝ }
+{
+    frame_reader::fault(form, frame)
 }
 
 // ---- messages
@@ -250,6 +264,18 @@ pub extern "C" fn pk_message_join(form: u8, lengths: &[usize], frames: &[u8], ou
     ensures { λ _. ⌜ now (out .exit) ≡ joinOutput (formAt form) (now (lengths .entry)) (now (frames .entry)) (now (out .entry)) ⌝ }
 {
     message_bytes::join(form, lengths, frames, out)
+}
+
+// Where frames are bad: answers the position in `frames` of what `pk_message_join` refuses them for
+// with an output of `room` bytes, and no refusal number. A frame's own fault is at its start plus
+// the position that `pk_frame_fault` gives; for 17, a wrong M and a frame that is not DATA it is
+// the frame's first byte; for lengths that do not sum to the bytes, no frames, 4 and 5 the length
+// of all the bytes; 0 for 1, and if the frames are joined.
+#[no_mangle]
+pub extern "C" fn pk_message_fault(form: u8, lengths: &[usize], frames: &[u8], room: usize) -> usize
+    ensures { λ r. ⌜ r ≡ joinedPosition (joinOf (formAt form) (now (lengths .entry)) (now (frames .entry)) room) ⌝ }
+{
+    message_bytes::fault(form, lengths, frames, room)
 }
 
 // ---- interrogators: a table of 512 bytes, for each of the 256 ground addresses the set of its

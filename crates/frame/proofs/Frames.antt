@@ -9,39 +9,42 @@ use native.Mathlib.Omega.{arith}
 use lib.Dec.{leb, eqb}
 use lib.ListN.{length, drop, getD}
 use borrow.Author.Tests.{leb-true, le-leb, eq-eqb, eqb-true}
-use Rattle.refusal.specs.declared.Refusal.the-variants.{OutOfRange, Malformed, PacketTooLong, OutputTooShort, ShortForm}
+use Rattle.refusal.specs.declared.Refusal.the-variants.{OutOfRange, Malformed, FormatError, PacketTooLong, OutputTooShort, ShortForm}
 use Rattle.refusal.specs.declared.Verdict.{Verdict}
 use Rattle.refusal.specs.declared.Verdict.the-variants.{Done, Refused}
-use Rattle.refusal.specs.Numbers.{check, andThen}
-use Rattle.refusal.proofs.Checks.{check-done, both-true, then-done}
+use Rattle.refusal.specs.Numbers.{check}
+use Rattle.refusal.specs.Positions.{Checked, passed, refusedAt, checkAt}
+use Rattle.refusal.proofs.Checks.{check-done, both-true, at-passed}
 use Rattle.frame_fields.specs.Rows.{AreBytes}
-use Rattle.frame_fields.specs.Layouts.{Layout, fields, hasLv, within, header, freeValues}
+use Rattle.frame_fields.specs.Layouts.{fields, hasLv, within, header, freeValues}
 use Rattle.frame_fields.proofs.Headers.{free-back}
 use Rattle.frame_fields.proofs.Tags.{header-opens}
 use Rattle.frame_form.specs.declared.Form.{Form}
 use Rattle.frame_form.specs.Forms.{segOf, mostOf, formValid, isLong}
 use Rattle.frame_form.specs.Segments.{lastUsed, frameLength, wholeSegments}
-use Rattle.frame_form.proofs.Forms.{segment-some, segment-few}
-use Rattle.frame_form.proofs.Segments.{used-range, frame-whole}
-use Rattle.frame_codec.specs.declared.UserLength.{UserLength}
-use Rattle.frame_codec.specs.declared.UserLength.the-variants.{Bytes}
-use Rattle.frame_codec.specs.Frames.{framed}
-use Rattle.frame_codec.specs.Writing.{writeVerdict, writtenBy, outputBy}
-use Rattle.frame_codec.specs.Reading.{packetLength, shapeVerdict, contentVerdict, readVerdict, userLengthBy, userLengthOf}
-use Rattle.frame.specs.declared.Kind.{Kind}
-use Rattle.frame.specs.declared.Found.{Found}
-use Rattle.frame.specs.declared.Found.the-variants.{Known, Unknown}
+use Rattle.frame_form.specs.Frames.{framed}
+use Rattle.frame_form.proofs.Forms.{segment-some, segment-few, segment-seven}
+use Rattle.frame_form.proofs.Segments.{used-range, frame-whole, whole-some, whole-none-over}
+use Rattle.frame_form.proofs.Frames.{framed-length, user-of}
+use Rattle.frame_kinds.specs.declared.Kind.{Kind}
+use Rattle.frame_kinds.specs.declared.Found.{Found}
+use Rattle.frame_kinds.specs.declared.Found.the-variants.{Known, Unknown}
+use Rattle.frame_kinds.specs.Kinds.{layoutOf, kinds}
+use Rattle.frame_kinds.proofs.Table.{sound, in-table, found}
+use Rattle.frame_kinds.proofs.Stored.{header-few}
+use Rattle.frame_reader.specs.Faults.{packetLength, firstFault}
+use Rattle.frame_reader.specs.Reading.{foundIn, faultOf, lengthIn, readChecks}
+use Rattle.frame_reader.proofs.Cases.{no-fault}
+use Rattle.frame_writer.specs.Writing.{valuesFit, frameBy, writeVerdict, outputBy}
 use Rattle.frame.specs.declared.Packet.{Packet}
 use Rattle.frame.specs.declared.UserData.{UserData}
-use Rattle.frame.specs.Packets.{kindOf, layoutOf, valuesOf, packetOf, kinds}
-use Rattle.frame.specs.Writing.{lengthOf, fits, frameOf, frameVerdict, writeOutput}
-use Rattle.frame.proofs.KindLaws.{kind-made, values-made, packet-made}
-use Rattle.frame.specs.Reading.{firstNamed, seenIn, readBy, unknownBy, readAs, readOf, partOf, placeOf}
-use Rattle.frame_codec.proofs.Frames.{framed-length, user-of}
-use Rattle.frame.proofs.Contents.{header-length, frameAs, values-back, content-done, lengthIn, freeIn, free-in-range, inside, frame-fills, header-only, frame-again}
-use Rattle.frame.proofs.Table.{sound, in-table, found}
-use Rattle.frame_codec.specs.declared.Written.the-variants.{Done as WrittenDone}
 use Rattle.frame.specs.declared.Read.the-variants.{Packet as PacketRead}
+use Rattle.frame.specs.declared.Written.the-variants.{Done as WrittenDone}
+use Rattle.frame.specs.Packets.{kindOf, valuesOf, packetOf}
+use Rattle.frame.specs.Writing.{lengthOf, fits, frameOf, frameVerdict, writtenBy, writeOutput}
+use Rattle.frame.specs.Reading.{readBy, readOf, partOf, placeOf}
+use Rattle.frame.proofs.KindLaws.{kind-made, values-made, packet-made}
+use Rattle.frame.proofs.Contents.{header-length, frameAs, values-back, content-good, freeIn, free-in-range, inside, frame-fills, header-only, frame-again}
 
 -- ---- what holds if a writer answers done
 
@@ -78,23 +81,12 @@ accepts form p user room a =
 -- a packet that fits has its values within their fields, and without LV it has no user data
 pub fit-parts : (p : Packet) (user : ℕ) → fits p user ≡ true
     → (within (fields (layoutOf (kindOf p))) (valuesOf p) ≡ true) × (hasLv (fields (layoutOf (kindOf p))) ≡ false → user ≡ 0)
-unfolding fits
+unfolding valuesFit
 fit-parts p user e =
     let a = both-true (within (fields (layoutOf (kindOf p))) (valuesOf p)) (hasLv (fields (layoutOf (kindOf p))) || eqb user 0) e in
     (a .0, λ h. eqb-true user 0 (sym (ap (λ (b : Bool). b || eqb user 0) h) ∙ a .1))
 
 -- ---- written, then read
-
-shape-done : (form : Form) (len : ℕ) → formValid form ≡ true → 1 ≤ len → len % segOf form ≡ 0 → shapeVerdict form len ≡ Done
-unfolding shapeVerdict wholeSegments
-shape-done form len good more multiple = rw (good, le-leb 1 len more, eq-eqb (len % segOf form) 0 multiple)
-
--- if both lists of checks pass, the answer is the length
-length-is : (form : Form) (frame : List ℕ) (l : Layout) (n : ℕ) → shapeVerdict form (length frame) ≡ Done
-    → contentVerdict (segOf form) (mostOf form) frame (seenIn l frame) ≡ Done → packetLength (seenIn l frame .extent) (segOf form) (length frame) ≡ n
-    → userLengthOf form frame (seenIn l frame) ≡ Bytes (n - seenIn l frame .size)
-unfolding userLengthOf readVerdict
-length-is form frame l n shape content en = rw (shape, content, en)
 
 -- a frame of the kind k, with these values of its free fields
 module _ (form : Form) (k : Kind) (vs user : List ℕ) (fit : within (fields (layoutOf k)) vs ≡ true) where
@@ -103,7 +95,7 @@ module _ (form : Form) (k : Kind) (vs user : List ℕ) (fit : within (fields (la
       let u = lastUsed (segOf form) (layoutOf k .size + length user) in
       framed-length (segOf form) (layoutOf k .size) (header (layoutOf k) u vs) user (header-length (layoutOf k) u vs)
 
-  names-kind : firstNamed kinds (getD (frameAs (segOf form) (layoutOf k) vs user) 0 0) ≡ Known k
+  names-kind : foundIn (frameAs (segOf form) (layoutOf k) vs user) ≡ Known k
   unfolding framed
   names-kind =
       let u = lastUsed (segOf form) (layoutOf k .size + length user) in
@@ -115,41 +107,30 @@ module _ (form : Form) (k : Kind) (vs user : List ℕ) (fit : within (fields (la
       ap (freeValues (fields (layoutOf k))) (values-back (segOf form) (layoutOf k) (sound k) (segment-some form) (segment-few form) vs user fit)
       ∙ free-back (lastUsed (segOf form) (layoutOf k .size + length user)) (fields (layoutOf k)) vs fit
 
+  is-whole : wholeSegments (segOf form) (length (frameAs (segOf form) (layoutOf k) vs user)) ≡ true
+  unfolding wholeSegments
+  is-whole =
+      let n = layoutOf k .size + length user in
+      let len = length (frameAs (segOf form) (layoutOf k) vs user) in
+      let multiple : len % segOf form ≡ 0 = ap (λ (x : ℕ). x % segOf form) frame-size ∙ frame-whole (segOf form) n (segment-some form) in
+      rw (le-leb 1 len (omega (arith, frame-size, sound k .bytes)), eq-eqb (len % segOf form) 0 multiple)
+
   kind-reads : formValid form ≡ true → (hasLv (fields (layoutOf k)) ≡ false → length user ≡ 0) → layoutOf k .size + length user ≤ mostOf form
       → readOf form (frameAs (segOf form) (layoutOf k) vs user) ≡ PacketRead (packetOf k vs) (record { at = layoutOf k .size; len = length user })
-  unfolding readOf readAs seenIn
+  unfolding readOf
   kind-reads good no-data most =
       let l = layoutOf k in
       let n = l .size + length user in
       let frame = frameAs (segOf form) l vs user in
-      let more : 1 ≤ length frame = omega (arith, frame-size, sound k .bytes) in
-      let multiple : length frame % segOf form ≡ 0 = ap (λ (x : ℕ). x % segOf form) frame-size ∙ frame-whole (segOf form) n (segment-some form) in
-      let content = content-done (segOf form) l (sound k) (segment-some form) (segment-few form) vs user fit (mostOf form) most no-data in
-      let len = length-is form frame l n (shape-done form (length frame) good more multiple) (content .0) (content .1) in
-      let back : n - l .size ≡ length user = omega arith in
-      ap (λ (f : Found). readAs f form frame) names-kind
-      ∙ ap (λ (x : UserLength). readBy x k frame) (len ∙ ap Bytes back)
-      ∙ ap (λ (v : List ℕ). PacketRead (packetOf k v) (record { at = l .size; len = length user })) free-is
+      let content = content-good (segOf form) l (sound k) (segment-some form) (segment-few form) vs user fit no-data in
+      let checks : readChecks form frame ≡ passed =
+      no-fault form frame good is-whole n (ap (λ (f : Found). faultOf f (segOf form) frame) names-kind ∙ content .0) (ap (λ (f : Found). lengthIn f (segOf form) frame) names-kind ∙ content .1)
+      ∙ ap (λ (b : Bool). checkAt b PacketTooLong (mostOf form) passed) (le-leb n (mostOf form) most) in
+      let back : packetLength (segOf form) l frame - l .size ≡ length user = omega (arith, content .1) in
+      ap₂ (λ (c : Checked) (f : Found). readBy c f (segOf form) frame) checks names-kind
+      ∙ ap₂ (λ (v : List ℕ) (m : ℕ). PacketRead (packetOf k v) (record { at = l .size; len = m })) free-is back
 
 -- ---- read, then written
-
--- if the answer is a packet, all checks passed
-by-known : (v : Verdict) (n : ℕ) (k : Kind) (frame : List ℕ) (p : Packet) (place : UserData) → readBy (userLengthBy v n) k frame ≡ PacketRead p place
-    → (v ≡ Done) × (p ≡ packetOf k (freeIn (layoutOf k) frame)) × (place ≡ record { at = layoutOf k .size; len = n })
-by-known Done n k frame p place e = (refl, cc, cc)
-by-known (Refused why) n k frame p place e = let z : _≡_ {A = ℕ} 0 1 = cc in absurd (omega arith)
-
-not-unknown : (v : Verdict) (p : Packet) (place : UserData) → unknownBy v ≡ PacketRead p place → ⊥
-not-unknown Done p place e = let z : _≡_ {A = ℕ} 0 1 = cc in omega arith
-not-unknown (Refused why) p place e = let z : _≡_ {A = ℕ} 0 1 = cc in omega arith
-
-shape-parts : (form : Form) (len : ℕ) → shapeVerdict form len ≡ Done → (formValid form ≡ true) × (1 ≤ len) × (len % segOf form ≡ 0)
-unfolding shapeVerdict wholeSegments
-shape-parts form len e =
-    let w = leb 1 len && eqb (len % segOf form) 0 in
-    let a = check-done (formValid form) OutOfRange (check w Malformed Done) e in
-    let b = both-true (leb 1 len) (eqb (len % segOf form) 0) (check-done w Malformed Done (a .1) .0) in
-    (a .0, leb-true 1 len (b .0), eqb-true (len % segOf form) 0 (b .1))
 
 -- What is known of a frame that reads.
 pub record IsFrame (form : Form) (frame : List ℕ) (p : Packet) (place : UserData) : Type 0 where
@@ -163,7 +144,7 @@ pub record IsFrame (form : Form) (frame : List ℕ) (p : Packet) (place : UserDa
 
 -- a packet of the kind k with these values fits
 fits-as : (k : Kind) (vs : List ℕ) (user : ℕ) → within (fields (layoutOf k)) vs ≡ true → (hasLv (fields (layoutOf k)) ≡ false → user ≡ 0) → fits (packetOf k vs) user ≡ true
-unfolding fits
+unfolding valuesFit
 fits-as k vs user fit no-data =
     ap₂ (λ (j : Kind) (xs : List ℕ). within (fields (layoutOf j)) xs && (hasLv (fields (layoutOf j)) || eqb user 0)) (kind-made k vs) (values-made k vs fit)
     ∙ rw fit (go (hasLv (fields (layoutOf k))) refl)
@@ -173,53 +154,87 @@ fits-as k vs user fit no-data =
     go false e = rw e (eq-eqb user 0 (no-data e))
 
 frame-as : (form : Form) (k : Kind) (vs user : List ℕ) → within (fields (layoutOf k)) vs ≡ true → frameOf form (packetOf k vs) user ≡ frameAs (segOf form) (layoutOf k) vs user
-unfolding frameOf
+unfolding frameBy
 frame-as form k vs user fit = ap₂ (λ (j : Kind) (xs : List ℕ). frameAs (segOf form) (layoutOf j) xs user) (kind-made k vs) (values-made k vs fit)
 
-module _ (form : Form) (frame : List ℕ) (k : Kind) (shape : shapeVerdict form (length frame) ≡ Done)
-    (content : contentVerdict (segOf form) (mostOf form) frame (seenIn (layoutOf k) frame) ≡ Done) where
-  kind-frame : IsFrame form frame (packetOf k (freeIn (layoutOf k) frame)) (record { at = layoutOf k .size; len = lengthIn (segOf form) (layoutOf k) frame - layoutOf k .size })
+-- What is known of a frame that passes.
+pub record Passed (form : Form) (frame : List ℕ) : Type 0 where
+  pub valid : formValid form ≡ true
+  pub whole : wholeSegments (segOf form) (length frame) ≡ true
+  pub none : faultOf (foundIn frame) (segOf form) frame ≡ length frame
+  pub most : lengthIn (foundIn frame) (segOf form) frame ≤ mostOf form
+
+pub checks-passed : (form : Form) (frame : List ℕ) → readChecks form frame ≡ passed → Passed form frame
+unfolding readChecks
+checks-passed form frame e =
+    let at = faultOf (foundIn frame) (segOf form) frame in
+    let n = lengthIn (foundIn frame) (segOf form) frame in
+    let d = checkAt (leb n (mostOf form)) PacketTooLong (mostOf form) passed in
+    let c = checkAt (eqb at (length frame)) FormatError at d in
+    let b = checkAt (wholeSegments (segOf form) (length frame)) Malformed (length frame) c in
+    let p = at-passed (formValid form) OutOfRange 0 b e in
+    let q = at-passed (wholeSegments (segOf form) (length frame)) Malformed (length frame) c (p .1) in
+    let r = at-passed (eqb at (length frame)) FormatError at d (q .1) in
+    let s = at-passed (leb n (mostOf form)) PacketTooLong (mostOf form) passed (r .1) in
+    record { valid = p .0; whole = q .0; none = eqb-true at (length frame) (r .0); most = leb-true n (mostOf form) (s .0) }
+
+-- a frame of no known kind does not
+pub never-unknown : (form : Form) (frame : List ℕ) → readChecks form frame ≡ passed → foundIn frame ≡ Unknown → ⊥
+never-unknown form frame e ef =
+    let q = checks-passed form frame e in
+    let none : 0 ≡ length frame = sym (ap (λ (x : Found). faultOf x (segOf form) frame) ef) ∙ q .none in
+    omega (arith, none, segment-some form, whole-some (segOf form) (length frame) (segment-some form) (q .whole))
+
+module _ (form : Form) (frame : List ℕ) (k : Kind) (valid : formValid form ≡ true) (whole : wholeSegments (segOf form) (length frame) ≡ true)
+    (none : firstFault (segOf form) (layoutOf k) frame ≡ length frame) (most : packetLength (segOf form) (layoutOf k) frame ≤ mostOf form) where
+  kind-frame : IsFrame form frame (packetOf k (freeIn (layoutOf k) frame)) (record { at = layoutOf k .size; len = packetLength (segOf form) (layoutOf k) frame - layoutOf k .size })
   kind-frame =
       let l = layoutOf k in
       let seg = segOf form in
       let vs = freeIn l frame in
-      let n = lengthIn seg l frame in
-      let s = shape-parts form (length frame) shape in
-      let in-it = inside seg (mostOf form) l (sound k) (segment-some form) frame (s .1) (s .2) content in
+      let n = packetLength seg l frame in
+      let some = whole-some seg (length frame) (segment-some form) whole in
+      let multiple = whole-none-over seg (length frame) whole in
+      let small : l .size ≤ seg = omega (arith, header-few k .1, segment-seven form) in
+      let in-it = inside seg l (sound k) (segment-some form) small frame some multiple none in
       let fit = free-in-range l frame in
       let same : layoutOf (kindOf (packetOf k vs)) .size ≡ l .size = ap (λ (j : Kind). layoutOf j .size) (kind-made k vs) in
       let sum : lengthOf (packetOf k vs) (n - l .size) ≡ n = omega (arith, same, in-it .0) in
       record {
-        good = s .0;
-        fit = fits-as k vs (n - l .size) fit (λ e. omega (arith, header-only seg (mostOf form) l (sound k) (segment-some form) frame (s .1) (s .2) content e));
+        good = valid;
+        fit = fits-as k vs (n - l .size) fit (λ e. omega (arith, header-only seg l (sound k) (segment-some form) small frame some multiple none e));
         header-first = sym same;
         within-frame = omega (arith, in-it .0, in-it .1);
-        most = omega (arith, sum, in-it .2);
-        fills = ap (frameLength seg) sum ∙ frame-fills seg (mostOf form) l (sound k) (segment-some form) frame (s .1) (s .2) content;
-        again = λ bytes. frame-as form k vs (partOf frame (record { at = l .size; len = n - l .size })) fit ∙ frame-again seg (mostOf form) l (sound k) (segment-some form) frame (s .1) (s .2) content bytes;
+        most = omega (arith, sum, most);
+        fills = ap (frameLength seg) sum ∙ frame-fills seg l (sound k) (segment-some form) small frame some multiple none;
+        again = λ bytes. frame-as form k vs (partOf frame (record { at = l .size; len = n - l .size })) fit ∙ frame-again seg l (sound k) (segment-some form) small frame some multiple none bytes;
       }
 
-by-found : (form : Form) (frame : List ℕ) (p : Packet) (place : UserData) (f : Found) → readAs f form frame ≡ PacketRead p place → IsFrame form frame p place
-unfolding readAs userLengthOf readVerdict seenIn
-by-found form frame p place Unknown e = absurd (not-unknown (shapeVerdict form (length frame)) p place e)
-by-found form frame p place (Known k) e =
+-- if the answer is a packet, all checks passed
+by-found : (form : Form) (frame : List ℕ) (p : Packet) (place : UserData) (c : Checked) (f : Found) → readChecks form frame ≡ c → foundIn frame ≡ f
+    → readBy c f (segOf form) frame ≡ PacketRead p place → IsFrame form frame p place
+by-found form frame p place (refusedAt why at) f ec ef e = let z : _≡_ {A = ℕ} 0 1 = cc in absurd (omega arith)
+by-found form frame p place passed Unknown ec ef e = let z : _≡_ {A = ℕ} 0 1 = cc in absurd (omega arith)
+by-found form frame p place passed (Known k) ec ef e =
     let l = layoutOf k in
-    let content = contentVerdict (segOf form) (mostOf form) frame (seenIn l frame) in
-    let b = by-known (andThen (shapeVerdict form (length frame)) content) (lengthIn (segOf form) l frame - l .size) k frame p place e in
-    let d = then-done (shapeVerdict form (length frame)) content (b .0) in
-    subst (λ (q : Packet). IsFrame form frame q place) (sym (b .1))
-    (subst (IsFrame form frame (packetOf k (freeIn l frame))) (sym (b .2)) (kind-frame form frame k (d .0) (d .1)))
+    let q = checks-passed form frame ec in
+    let none = sym (ap (λ (x : Found). faultOf x (segOf form) frame) ef) ∙ q .none in
+    let most : packetLength (segOf form) l frame ≤ mostOf form = subst (λ (x : Found). lengthIn x (segOf form) frame ≤ mostOf form) ef (q .most) in
+    let packet : packetOf k (freeIn l frame) ≡ p = cc in
+    let at : record { at = l .size; len = packetLength (segOf form) l frame - l .size } ≡ place = cc in
+    subst (λ (x : Packet). IsFrame form frame x place) packet
+    (subst (IsFrame form frame (packetOf k (freeIn l frame))) at (kind-frame form frame k (q .valid) (q .whole) none most))
 
 -- every frame that reads is `IsFrame`
 pub reads-frame : (form : Form) (frame : List ℕ) (p : Packet) (place : UserData) → readOf form frame ≡ PacketRead p place → IsFrame form frame p place
 unfolding readOf
-reads-frame form frame p place e = by-found form frame p place (firstNamed kinds (getD frame 0 0)) e
+reads-frame form frame p place e = by-found form frame p place (readChecks form frame) (foundIn frame) refl refl e
 
 -- ---- the same, for `writeOf`, `writeOutput` and `readOf`
 
 -- the length of the frame that is written, and the lent output afterwards
 pub frame-length : (form : Form) (p : Packet) (user : List ℕ) → length (frameOf form p user) ≡ frameLength (segOf form) (lengthOf p (length user))
-unfolding frameOf
+unfolding frameBy
 frame-length form p user =
     let u = lastUsed (segOf form) (lengthOf p (length user)) in
     let l = layoutOf (kindOf p) in
@@ -232,14 +247,14 @@ output-is form p user out e = ap (λ (v : Verdict). outputBy v (frameOf form p u
 
 pub frame-reads : (form : Form) (p : Packet) (user : List ℕ) → formValid form ≡ true → fits p (length user) ≡ true → lengthOf p (length user) ≤ mostOf form
     → readOf form (frameOf form p user) ≡ PacketRead p (placeOf p (length user))
-unfolding frameOf
+unfolding frameBy
 frame-reads form p user good fit most =
     let f = fit-parts p (length user) fit in
     kind-reads form (kindOf p) (valuesOf p) user (f .0) good (f .1) most
     ∙ ap (λ (q : Packet). PacketRead q (placeOf p (length user))) (packet-made p)
 
 pub frame-user : (form : Form) (p : Packet) (user : List ℕ) → partOf (frameOf form p user) (placeOf p (length user)) ≡ user
-unfolding frameOf
+unfolding frameBy
 frame-user form p user =
     let u = lastUsed (segOf form) (lengthOf p (length user)) in
     let l = layoutOf (kindOf p) in

@@ -2,7 +2,7 @@
 -- follow from them.
 -- Assumes nothing.
 use mathlib.Core.Path.{_≡_, refl, sym, ap, _∙_, subst}
-use mathlib.Core.Bool.{Bool, true, false, cond, _&&_, _||_, and-assoc, and-true}
+use mathlib.Core.Bool.{Bool, true, false, cond}
 use mathlib.Core.List.{List, [], _∷_}
 use Prim.Native.Nat.{ℕ, zero, suc, _+_, _^_, _<_}
 use native.Mathlib.Numerals.{add-one}
@@ -10,25 +10,20 @@ use native.Mathlib.Omega.{arith}
 use lib.Dec.{ltb, eqb}
 use lib.ListN.{getD, drop}
 use lib.Seq.{getD-drop, drop-drop}
-use borrow.Author.Tests.{ltb-true, lt-ltb, eqb-true}
+use borrow.Author.Tests.{ltb-true, eqb-true}
 use Rattle.refusal.proofs.Checks.{both-true}
 use Rattle.frame_fields.specs.Layouts.{Field, fixed, free, lv, fields, within}
-use Rattle.frame.specs.declared.Kind.{Kind}
-use Rattle.frame.specs.declared.Kind.the-variants.{Data as DataKind, ClearRequest as ClearRequestKind, ClearConfirmation as ClearConfirmationKind}
+use Rattle.frame_kinds.specs.declared.Kind.{Kind}
+use Rattle.frame_kinds.specs.declared.Kind.the-variants.{Data as DataKind, ClearRequest as ClearRequestKind, ClearConfirmation as ClearConfirmationKind}
 use Rattle.frame.specs.declared.Packet.{Packet}
-use Rattle.frame.specs.declared.Packet.the-variants.{Data, ClearRequest, ClearConfirmation}
-use Rattle.frame.specs.declared.Data.{Data as DataFields}
 use Rattle.frame.specs.declared.MaybeData.the-variants.{Data as SomeData}
+use Rattle.frame.specs.declared.Data.{Data as DataFields}
+use Rattle.frame.specs.declared.Packet.the-variants.{Data, ClearRequest, ClearConfirmation}
 use Rattle.little.specs.Little.{flag}
-use Rattle.frame.specs.Packets.{layoutOf, kindOf, valuesOf, packetOf, asData}
-use Rattle.frame.specs.Parts.{narrowAfter, Bytes, FitsTested}
+use Rattle.frame_kinds.specs.Kinds.{layoutOf}
+use Rattle.frame.specs.Packets.{kindOf, valuesOf, packetOf, asData}
 
 -- ---- flags
-
--- a flag fits its bit
-pub flag-fits : (b : Bool) → ltb (flag b) 2 ≡ true
-flag-fits true = refl
-flag-fits false = refl
 
 -- a flag is read back from its bit
 pub flag-read : (b : Bool) → eqb (flag b) 1 ≡ b
@@ -99,50 +94,6 @@ kept-all (free w ∷ fs) vs i (d ∷ ds) e h =
 
 pub values-made : (k : Kind) (vs : List ℕ) → within (fields (layoutOf k)) vs ≡ true → valuesOf (packetOf k vs) ≡ vs
 values-made k vs h = facts k .keeps vs ∙ kept-all (fields (layoutOf k)) vs 0 vs refl h
-
--- ---- what a kind has to test of its values: those that are neither flags nor whole bytes
-
--- a test that always holds need not be made
-fits-always : (b : Bool) (w v : ℕ) (r : Bool) → (eqb w 1 ≡ true → ltb v (2 ^ w) ≡ true) → (eqb w 8 ≡ true → ltb v (2 ^ w) ≡ true)
-    → (cond (eqb w 1 || eqb w 8) b (b && ltb v (2 ^ w)) && r) ≡ (b && (ltb v (2 ^ w) && r))
-fits-always b w v r one eight = go (eqb w 1) (eqb w 8) refl refl
-  where
-    go : (s t : Bool) → eqb w 1 ≡ s → eqb w 8 ≡ t → (cond (s || t) b (b && ltb v (2 ^ w)) && r) ≡ (b && (ltb v (2 ^ w) && r))
-    go true t e f = ap (λ (x : Bool). b && (x && r)) (sym (one e))
-    go false true e f = ap (λ (x : Bool). b && (x && r)) (sym (eight f))
-    go false false e f = and-assoc b (ltb v (2 ^ w)) r
-
--- a whole byte fits
-first-byte : (w : ℕ) (fs : List Field) (v : ℕ) (vs : List ℕ) → Bytes (free w ∷ fs) (v ∷ vs) → (eqb w 8 ≡ true → ltb v (2 ^ w) ≡ true) × Bytes fs vs
-first-byte zero fs v vs h = (λ e. let z : _≡_ {A = ℕ} 0 1 = cc in absurd (omega arith), h)
-first-byte (suc zero) fs v vs h = (λ e. let z : _≡_ {A = ℕ} 0 1 = cc in absurd (omega arith), h)
-first-byte (suc (suc w)) fs v vs h =
-    (λ e. lt-ltb v (2 ^ suc (suc w)) (subst (λ (x : ℕ). v < 2 ^ x) (sym (eqb-true (suc (suc w)) 8 e)) (h .0)), h .1)
-
--- the values that a packet keeps fit exactly if the tests that are made hold
-narrow-kept : (b : Bool) (fs : List Field) (vs : List ℕ) (i : ℕ) → Bytes fs (kept fs vs i) → narrowAfter b fs (kept fs vs i) ≡ (b && within fs (kept fs vs i))
-narrow-kept b [] vs i h = sym (and-true b)
-narrow-kept b (fixed w x ∷ fs) vs i h = narrow-kept b fs vs i h
-narrow-kept b (lv w ∷ fs) vs i h = narrow-kept b fs vs i h
-narrow-kept b (free w ∷ fs) vs i h =
-    let v = cond (eqb w 1) (flag (eqb (getD vs i 0) 1)) (getD vs i 0) in
-    let p = first-byte w fs v (kept fs vs (suc i)) h in
-    narrow-kept (cond (eqb w 1 || eqb w 8) b (b && ltb v (2 ^ w))) fs vs (suc i) (p .1)
-    ∙ fits-always b w v (within fs (kept fs vs (suc i))) (one (eqb w 1) refl) (p .0)
-  where
-    one : (s : Bool) → eqb w 1 ≡ s → s ≡ true → ltb (cond s (flag (eqb (getD vs i 0) 1)) (getD vs i 0)) (2 ^ w) ≡ true
-    one true e f = ap (λ (x : ℕ). ltb (flag (eqb (getD vs i 0) 1)) (2 ^ x)) (eqb-true w 1 e) ∙ flag-fits (eqb (getD vs i 0) 1)
-    one false e f = let z : _≡_ {A = ℕ} 0 1 = cc in absurd (omega arith)
-
--- so the fields of every kind fit exactly if those tests hold
-pub fits-within : (p : Packet) (r : Bool) → FitsTested p r → r ≡ within (fields (layoutOf (kindOf p))) (valuesOf p)
-fits-within p r h =
-    let k = kindOf p in
-    let fs = fields (layoutOf k) in
-    let e : kept fs (valuesOf p) 0 ≡ valuesOf p = sym (facts k .keeps (valuesOf p)) ∙ ap valuesOf (packet-made p) in
-    h .0
-    ∙ subst (λ (vs : List ℕ). narrowAfter true fs vs ≡ within fs vs) e
-    (narrow-kept true fs (valuesOf p) 0 (subst (λ (vs : List ℕ). Bytes fs vs) (sym e) (h .1)))
 
 -- ---- the DATA packet
 

@@ -2,4 +2,3 @@
 pub mod Packets
 pub mod Writing
 pub mod Reading
-pub mod Parts

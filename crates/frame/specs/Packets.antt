@@ -1,57 +1,23 @@
--- The packets: document 01, "Forms and frames", the list of fields. Each kind of packet has a
--- layout, the list of its header's fields, and the packet's values go into the free fields in their
--- order.
+-- The packets as types: document 01, "Forms and frames", the list of fields. A packet is its kind
+-- and the values of the free fields of the kind's layout, in their order; `frame_kinds` has the
+-- layouts.
 -- Assumes nothing.
 use mathlib.Core.List.{List, [], _∷_}
 use Prim.Native.Nat.{ℕ}
 use lib.Dec.{eqb}
-use lib.ListN.{getD}
+use lib.ListN.{getD, drop}
 use Rattle.sequence.specs.declared.LinkNumber.{LinkNumber}
 use Rattle.sequence.specs.Numbers.{link, packet}
 use Rattle.little.specs.Little.{flag}
-use Rattle.frame_fields.specs.Layouts.{fixed, free, lv, Layout}
-use Rattle.frame.specs.declared.Kind.{Kind}
-use Rattle.frame.specs.declared.Kind.the-variants.{Data as DataKind, ClearRequest as ClearRequestKind, ClearConfirmation as ClearConfirmationKind}
+use Rattle.frame_kinds.specs.declared.Kind.{Kind}
+use Rattle.frame_kinds.specs.declared.Kind.the-variants.{Data as DataKind, ClearRequest as ClearRequestKind, ClearConfirmation as ClearConfirmationKind}
+use Rattle.frame_kinds.specs.declared.Found.{Found}
+use Rattle.frame_kinds.specs.declared.Found.the-variants.{Known, Unknown}
+use Rattle.frame_kinds.specs.Kinds.{kindAt, tenBytes}
 use Rattle.frame.specs.declared.MaybeData.{MaybeData}
 use Rattle.frame.specs.declared.MaybeData.the-variants.{Nothing, Data as SomeData}
 use Rattle.frame.specs.declared.Packet.{Packet}
 use Rattle.frame.specs.declared.Packet.the-variants.{Data, ClearRequest, ClearConfirmation}
-
--- ---- the layouts. `kind` lists the first fields, by which the kind is known; `rest` the others,
--- up to the user data; `size` is the header's length in bytes.
--- `fixed w v` is a field of w bits that must be v (fill is `fixed w 0`), `free w` a field of w bits
--- with a value of the packet, `lv w` is LV
-
--- "DATA: DP 1 bit = 1, M 1, SN 6, PS 4, PR 4, CH 4, LV 4, user data. Header 3 bytes."
-abbrev pub dataLayout : Layout
-dataLayout = record {
-  kind = fixed 1 1 ∷ [];
-  rest = free 1 ∷ free 6 ∷ free 4 ∷ free 4 ∷ free 4 ∷ lv 4 ∷ [];
-  size = 3;
-}
-
--- "CLEAR REQUEST: DP 1 = 0, MP 1 = 1, SP 2 = 1, ST 2 = 2, fill 2, TC 2, SN 6, CH 4, AM 4, AG 8, CC
--- 8, DC 8, S 1, fill 2, F 1, LV 4, user data. Header 7 bytes."
-abbrev pub clearRequestLayout : Layout
-clearRequestLayout = record {
-  kind = fixed 1 0 ∷ fixed 1 1 ∷ fixed 2 1 ∷ fixed 2 2 ∷ [];
-  rest = fixed 2 0 ∷ free 2 ∷ free 6 ∷ free 4 ∷ free 4 ∷ free 8 ∷ free 8 ∷ free 8 ∷ free 1 ∷ fixed 2 0 ∷ free 1 ∷ lv 4 ∷ [];
-  size = 7;
-}
-
--- "CLEAR CONFIRMATION: as above up to AG, with ST = 3. 4 bytes, no user data"
-abbrev pub clearConfirmationLayout : Layout
-clearConfirmationLayout = record {
-  kind = fixed 1 0 ∷ fixed 1 1 ∷ fixed 2 1 ∷ fixed 2 3 ∷ [];
-  rest = fixed 2 0 ∷ free 2 ∷ free 6 ∷ free 4 ∷ free 4 ∷ free 8 ∷ [];
-  size = 4;
-}
-
--- the layout of each kind
-abbrev pub layoutOf : Kind → Layout
-layoutOf DataKind = dataLayout
-layoutOf ClearRequestKind = clearRequestLayout
-layoutOf ClearConfirmationKind = clearConfirmationLayout
 
 -- ---- a packet as its kind and the values of its free fields
 
@@ -101,7 +67,14 @@ snOf (Data d) = d .sn
 snOf (ClearRequest d) = d .sn
 snOf (ClearConfirmation d) = d .sn
 
--- ---- the kinds that a reader knows, in the order in which it tries them; no first byte names two
--- of them
-abbrev pub kinds : List Kind
-kinds = DataKind ∷ ClearRequestKind ∷ ClearConfirmationKind ∷ []
+-- ---- a packet in ten bytes, as `frame_reader` reads it and `frame_writer` takes it
+abbrev pub packetBytes : Packet → List ℕ
+packetBytes p = tenBytes (kindOf p) (valuesOf p)
+
+-- the packet that ten bytes hold; DATA if the first names no kind
+abbrev pub kindOr : Found → Kind
+kindOr (Known k) = k
+kindOr Unknown = DataKind
+
+unfoldable pub packetAt : List ℕ → Packet
+packetAt ten = packetOf (kindOr (kindAt (getD ten 0 0))) (drop 1 ten)

@@ -12,11 +12,13 @@ use Rattle.frame_fields.proofs.Rows.{bytes-are, zeros-are, both-are}
 use Rattle.frame_form.specs.declared.Form.{Form}
 use Rattle.frame_form.specs.Forms.{segOf}
 use Rattle.frame_form.specs.Segments.{padding, lastUsed}
-use Rattle.frame_codec.specs.Frames.{framed}
+use Rattle.frame_form.specs.Frames.{framed}
+use Rattle.frame_kinds.specs.Kinds.{layoutOf}
+use Rattle.frame_writer.specs.Writing.{frameBy}
 use Rattle.frame.specs.declared.Packet.{Packet}
 use Rattle.frame.specs.declared.UserData.{UserData}
 use Rattle.frame.specs.declared.Read.the-variants.{Packet as PacketRead}
-use Rattle.frame.specs.Packets.{kindOf, layoutOf, valuesOf}
+use Rattle.frame.specs.Packets.{kindOf, valuesOf}
 use Rattle.frame.specs.Writing.{lengthOf, fits, frameOf}
 use Rattle.frame.specs.Reading.{readOf, partOf}
 use Rattle.frame.proofs.Frames.{reads-frame, frame-reads, frame-user}
@@ -39,7 +41,7 @@ read-is-frame form frame p place bytes e =
 
 -- a header is bytes, and so is padding
 frame-bytes : (form : Form) (p : Packet) (user : List ℕ) → AreBytes user → AreBytes (frameOf form p user)
-unfolding frameOf framed
+unfolding frameBy framed
 frame-bytes form p user are =
     let l = layoutOf (kindOf p) in
     let u = lastUsed (segOf form) (lengthOf p (length user)) in

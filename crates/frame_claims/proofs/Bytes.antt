@@ -1,8 +1,8 @@
 -- Demand 2 of the calls on lent bytes, from that of the calls on packets: an answer that is done
 -- came from a packet that was written or read, and ten bytes are one packet.
 -- Assumes nothing.
-use mathlib.Core.Path.{_≡_, refl, sym, ap, ap₂, _∙_}
-use mathlib.Core.Bool.{Bool, true, false, cond, _&&_}
+use mathlib.Core.Path.{_≡_, refl, sym, ap, ap₂, _∙_, subst}
+use mathlib.Core.Bool.{Bool, true, false, cond}
 use mathlib.Core.List.{List}
 use Prim.Native.Nat.{ℕ, _+_, _*_, _/_, _%_, _<_, _≤_}
 use native.Mathlib.Omega.{arith}
@@ -11,33 +11,81 @@ use lib.ListN.{length, getD, take, drop}
 use lib.Seq.{take-at}
 use borrow.Author.Tests.{leb-true, eqb-true}
 use Rattle.refusal.specs.declared.Refusal.the-variants.{OutOfRange, OutputTooShort}
-use Rattle.refusal.specs.Numbers.{numberOf}
-use Rattle.refusal.proofs.Checks.{both-true}
+use Rattle.refusal.specs.declared.Verdict.{Verdict}
+use Rattle.refusal.specs.declared.Verdict.the-variants.{Done, Refused}
+use Rattle.refusal.specs.Numbers.{numberOf, check}
+use Rattle.refusal.specs.Positions.{Checked, passed, refusedAt}
 use Rattle.refusal.proofs.Numbers.{number-range}
 use Rattle.lists.specs.Lists.{over}
 use Rattle.frame_fields.specs.Rows.{AreBytes}
-use Rattle.frame_form.specs.Forms.{formAt}
-use Rattle.frame_form.proofs.Forms.{long-at}
-use Rattle.frame_codec.specs.declared.Written.{Written}
-use Rattle.frame_codec.specs.declared.Written.the-variants.{Done as WrittenDone, Refused as NotWritten}
-use Rattle.frame.specs.declared.Kind.{Kind}
+use Rattle.frame_form.specs.declared.Form.{Form}
+use Rattle.frame_form.specs.Forms.{segOf, formValid, formAt}
+use Rattle.frame_form.specs.Segments.{frameLength}
+use Rattle.frame_form.proofs.Forms.{long-at, most-range}
+use Rattle.frame_kinds.specs.declared.Kind.{Kind}
+use Rattle.frame_kinds.specs.declared.Found.{Found}
+use Rattle.frame_kinds.specs.declared.Found.the-variants.{Known, Unknown}
+use Rattle.frame_kinds.specs.Kinds.{layoutOf, kindAt, valueCount, tenBytes}
+use Rattle.frame_reader.specs.Faults.{packetLength}
+use Rattle.frame_reader.specs.Reading.{foundIn, headerLength, userLength, valuesAs, readChecks, readAnswerBy, readAnswer, readBytes}
+use Rattle.frame_reader.proofs.Cases.{passed-answer, passed-bytes}
+use Rattle.frame_writer.specs.Writing.{packetSize, frameBy, writeVerdict, outputBy, answerBy, placesFit, writeAnswerBy, writeAnswer, writeBytes}
+use Rattle.frame_writer.proofs.Answers.{ten-answer, ten-bytes}
 use Rattle.frame.specs.declared.Packet.{Packet}
+use Rattle.frame.specs.declared.Packet.the-variants.{Data, ClearRequest, ClearConfirmation}
 use Rattle.frame.specs.declared.UserData.{UserData}
-use Rattle.frame.specs.declared.Found.{Found}
-use Rattle.frame.specs.declared.Found.the-variants.{Known, Unknown}
-use Rattle.frame.specs.declared.Read.{Read}
-use Rattle.frame.specs.declared.Read.the-variants.{Packet as PacketRead, Refused as NotRead}
-use Rattle.frame.specs.Packets.{kindOf, packetOf}
-use Rattle.frame.specs.Writing.{frameOf, writeOf, writeOutput}
-use Rattle.frame.specs.Reading.{readOf, partOf, placeOf}
-use Rattle.frame_bytes.specs.Stored.{packetBytes, kindAt, flagsFit, unusedZero, writtenAnswer, writeAnswerBy, writeAnswer, writeBytes, readAnswerBy, readAnswer, readBytes}
-use Rattle.frame_bytes.proofs.Answers.{known-code, known-bytes, ten-code, ten-bytes, done-read}
-use Rattle.frame_bytes.proofs.Sizes.{read-few}
-use Rattle.frame_bytes.proofs.Claims.{round-trips}
+use Rattle.frame.specs.declared.Written.{Written}
+use Rattle.frame.specs.declared.Written.the-variants.{Done as WrittenDone, Refused as NotWritten}
+use Rattle.frame.specs.declared.Read.the-variants.{Packet as PacketRead}
+use Rattle.frame.specs.Packets.{kindOf, valuesOf, packetOf, packetBytes, packetAt}
+use Rattle.frame.specs.Writing.{writtenNumber, writtenBytes, writtenBy, lengthOf, frameOf, frameVerdict, writeOf, writeOutput}
+use Rattle.frame.specs.Reading.{readBy, readOf, partOf, placeOf}
+use Rattle.frame.proofs.KindLaws.{kind-made, values-made}
+use Rattle.frame.proofs.Contents.{freeIn, free-in-range}
+use Rattle.frame.proofs.Frames.{reads-frame, never-unknown}
 use Rattle.frame_claims.specs.ByLayout.{CanHold}
 use Rattle.frame_claims.specs.Bytes.{frameWritten, userNamed, BytesRead, BytesWritten, BytesAreFrame, FrameIsBytes, ReadBackOfBytes}
 use Rattle.frame_claims.proofs.ByLayout.{part-length, by-layout}
 use Rattle.frame_claims.proofs.ReadBack.{read-back}
+use Rattle.frame_claims.proofs.Stored.{round-trips}
+
+-- ---- a call of `write`
+
+-- a writer's answer as one number
+abbrev pub writtenAnswer : Written → ℕ
+writtenAnswer w = writtenNumber w + 256 * writtenBytes w
+
+one-number : (v : Verdict) (len : ℕ) → answerBy v len ≡ writtenAnswer (writtenBy v len)
+one-number Done len = refl
+one-number (Refused why) len = refl
+
+-- the values are the first of the nine bytes after the first
+values-first : (p : Packet) → take (valueCount (kindOf p)) (drop 1 (packetBytes p)) ≡ valuesOf p
+unfolding tenBytes
+values-first (Data d) = refl
+values-first (ClearRequest d) = refl
+values-first (ClearConfirmation d) = refl
+
+-- the calls on ten bytes of a packet do what those on the packet do
+module _ (form : ℕ) (p : Packet) where
+  same-verdict : (user room : ℕ) → writeVerdict (formAt form) (placesFit (kindOf p) (drop 1 (packetBytes p)) user) (packetSize (kindOf p) user) room
+      ≡ frameVerdict (formAt form) p user room
+  same-verdict user room = ap (λ (b : Bool). writeVerdict (formAt form) b (packetSize (kindOf p) user) room) (round-trips .packet-back p .places user)
+
+  pub answer-of : (user room : ℕ) → writeAnswer form (packetBytes p) user room ≡ writtenAnswer (writeOf (formAt form) p user room)
+  unfolding writeOf
+  answer-of user room =
+      let b = round-trips .packet-back p in
+      sym (ten-answer form (packetBytes p) (Known (kindOf p)) user room (b .ten) (sym (b .kind)))
+      ∙ ap (λ (v : Verdict). answerBy v (frameLength (segOf (formAt form)) (packetSize (kindOf p) user))) (same-verdict user room)
+      ∙ one-number (frameVerdict (formAt form) p user room) (frameLength (segOf (formAt form)) (lengthOf p user))
+
+  output-of : (user out : List ℕ) → writeBytes form (packetBytes p) user out ≡ writeOutput (formAt form) p user out
+  unfolding writeOutput
+  output-of user out =
+      let b = round-trips .packet-back p in
+      sym (ten-bytes form (packetBytes p) (Known (kindOf p)) user out (b .ten) (sym (b .kind)))
+      ∙ ap₂ (λ (v : Verdict) (vs : List ℕ). outputBy v (frameBy (formAt form) (kindOf p) vs user) out) (same-verdict (length user) (length out)) (values-first p)
 
 -- ---- a call of `write` whose answer is done
 
@@ -48,50 +96,50 @@ record Wrote (form : ℕ) (bytes : List ℕ) (user room : ℕ) : Type 0 where
   taken : packetBytes p ≡ bytes
   done : writeOf (formAt form) p user room ≡ WrittenDone n
 
--- the calls on ten bytes of a packet do what those on the packet do
-module _ (form : ℕ) (p : Packet) where
-  fit : (flagsFit (kindOf p) (drop 1 (packetBytes p)) && unusedZero (kindOf p) (drop 1 (packetBytes p))) ≡ true
-  fit = let b = round-trips .packet-back p in ap₂ (λ (x y : Bool). x && y) (b .flags) (b .unused)
-
-  pub answer-of : (user room : ℕ) → writeAnswer form (packetBytes p) user room ≡ writtenAnswer (writeOf (formAt form) p user room)
-  answer-of user room =
-      let b = round-trips .packet-back p in
-      sym (known-code (kindOf p) form (drop 1 (packetBytes p)) (formAt form) p refl (sym (b .back)) user room _ fit refl
-      ∙ ten-code form (packetBytes p) (Known (kindOf p)) user room (b .ten) (sym (b .kind)))
-
-  output-of : (user out : List ℕ) → writeBytes form (packetBytes p) user out ≡ writeOutput (formAt form) p user out
-  output-of user out =
-      let b = round-trips .packet-back p in
-      sym (known-bytes (kindOf p) form (drop 1 (packetBytes p)) (formAt form) p refl (sym (b .back)) user out _ fit refl
-      ∙ ten-bytes form (packetBytes p) (Known (kindOf p)) user out (b .ten) (sym (b .kind)))
-
 -- a writer's answer with the number 0 is done
 written-done : (w : Written) → writtenAnswer w % 256 ≡ 0 → (n : ℕ) × (w ≡ WrittenDone n)
 written-done (WrittenDone n) h = (n, refl)
 written-done (NotWritten why) h = absurd (omega (arith, number-range why))
 
+-- and its values fit
+done-fits : (form : Form) (b : Bool) (n room len : ℕ) → answerBy (writeVerdict form b n room) len % 256 ≡ 0 → b ≡ true
+unfolding writeVerdict
+done-fits form true n room len h = refl
+done-fits form false n room len h = go (formValid form) h
+  where
+    go : (v : Bool) → answerBy (check v OutOfRange (Refused OutOfRange)) len % 256 ≡ 0 → _≡_ {A = Bool} false true
+    go true e = absurd (omega (arith, e))
+    go false e = absurd (omega (arith, e))
+
 module _ (form : ℕ) (bytes : List ℕ) (user room : ℕ) where
-  by-fit : (k : Kind) (b : Bool) → (flagsFit k (drop 1 bytes) && unusedZero k (drop 1 bytes)) ≡ b → length bytes ≡ 10 → kindAt (getD bytes 0 0) ≡ Known k
-      → cond b (writtenAnswer (writeOf (formAt form) (packetOf k (drop 1 bytes)) user room)) (numberOf OutOfRange) % 256 ≡ 0 → Wrote form bytes user room
-  by-fit k false fit ten kind h = absurd (omega arith)
-  by-fit k true fit ten kind h =
-      let f = both-true (flagsFit k (drop 1 bytes)) (unusedZero k (drop 1 bytes)) fit in
-      let w = written-done (writeOf (formAt form) (packetOf k (drop 1 bytes)) user room) h in
-      record { p = packetOf k (drop 1 bytes); n = w .0; taken = round-trips .bytes-back bytes k ten kind (f .0) (f .1); done = w .1 }
+  -- ten bytes of a kind that fit are those of one packet
+  by-fit : (k : Kind) → length bytes ≡ 10 → kindAt (getD bytes 0 0) ≡ Known k → placesFit k (drop 1 bytes) user ≡ true
+      → writeAnswer form bytes user room % 256 ≡ 0 → Wrote form bytes user room
+  by-fit k ten kind fit h =
+      let same = round-trips .bytes-back bytes k user ten kind fit in
+      let w = written-done (writeOf (formAt form) (packetAt bytes) user room)
+      (ap (λ (x : ℕ). x % 256) (sym (answer-of form (packetAt bytes) user room) ∙ ap (λ (x : List ℕ). writeAnswer form x user room) same) ∙ h) in
+      record { p = packetAt bytes; n = w .0; taken = same; done = w .1 }
 
-  by-kind : (found : Found) → kindAt (getD bytes 0 0) ≡ found → length bytes ≡ 10 → writeAnswerBy found form (drop 1 bytes) user room % 256 ≡ 0
-      → Wrote form bytes user room
-  by-kind (Known k) kind ten h = by-fit k (flagsFit k (drop 1 bytes) && unusedZero k (drop 1 bytes)) refl ten kind h
-  by-kind Unknown kind ten h = absurd (omega arith)
+  by-kind : (found : Found) → kindAt (getD bytes 0 0) ≡ found → length bytes ≡ 10 → writeAnswer form bytes user room % 256 ≡ 0
+      → writeAnswerBy found form (drop 1 bytes) user room % 256 ≡ 0 → Wrote form bytes user room
+  by-kind (Known k) kind ten h g =
+      by-fit k ten kind
+      (done-fits (formAt form) (placesFit k (drop 1 bytes) user) (packetSize k user) room (frameLength (segOf (formAt form)) (packetSize k user)) g) h
+  by-kind Unknown kind ten h g = absurd (omega arith)
 
-  by-ten : (b : Bool) → eqb (length bytes) 10 ≡ b
+  by-ten : (b : Bool) → eqb (length bytes) 10 ≡ b → writeAnswer form bytes user room % 256 ≡ 0
       → cond b (writeAnswerBy (kindAt (getD bytes 0 0)) form (drop 1 bytes) user room) (numberOf OutOfRange) % 256 ≡ 0 → Wrote form bytes user room
-  by-ten true e h = by-kind (kindAt (getD bytes 0 0)) refl (eqb-true (length bytes) 10 e) h
-  by-ten false e h = absurd (omega arith)
+  by-ten true e h g = by-kind (kindAt (getD bytes 0 0)) refl (eqb-true (length bytes) 10 e) h g
+  by-ten false e h g = absurd (omega arith)
+
+  split : writeAnswer form bytes user room % 256 ≡ 0
+      → cond (eqb (length bytes) 10) (writeAnswerBy (kindAt (getD bytes 0 0)) form (drop 1 bytes) user room) (numberOf OutOfRange) % 256 ≡ 0
+  unfolding writeAnswer
+  split h = h
 
   wrote : writeAnswer form bytes user room % 256 ≡ 0 → Wrote form bytes user room
-  unfolding writeAnswer
-  wrote h = by-ten (eqb (length bytes) 10) refl h
+  wrote h = by-ten (eqb (length bytes) 10) refl h (split h)
 
 -- ---- a call of `read` whose answer is done
 
@@ -103,18 +151,62 @@ record WasRead (form : ℕ) (frame : List ℕ) (places : ℕ) : Type 0 where
   room : 10 ≤ places
 
 module _ (form : ℕ) (frame : List ℕ) (places : ℕ) where
-  by-room : (p : Packet) (place : UserData) (b : Bool) → leb 10 places ≡ b → readOf (formAt form) frame ≡ PacketRead p place
-      → cond b (256 * (place .at + 256 * place .len)) (numberOf OutputTooShort) % 256 ≡ 0 → WasRead form frame places
-  by-room p place true b e h = record { p = p; place = place; reads = e; room = leb-true 10 places b }
-  by-room p place false b e h = absurd (omega arith)
+  by-room : (k : Kind) (b : Bool) → leb 10 places ≡ b → readChecks (formAt form) frame ≡ passed → foundIn frame ≡ Known k → (n : ℕ)
+      → cond b (256 * n) (numberOf OutputTooShort) % 256 ≡ 0 → WasRead form frame places
+  unfolding readOf
+  by-room k true b e ef n h = record {
+    p = packetOf k (valuesAs (Known k) frame);
+    place = record { at = layoutOf k .size; len = userLength (Known k) (segOf (formAt form)) frame };
+    reads = ap₂ (λ (c : Checked) (f : Found). readBy c f (segOf (formAt form)) frame) e ef;
+    room = leb-true 10 places b;
+  }
+  by-room k false b e ef n h = absurd (omega arith)
 
-  by-read : (r : Read) → readOf (formAt form) frame ≡ r → readAnswerBy r places % 256 ≡ 0 → WasRead form frame places
-  by-read (PacketRead p place) e h = by-room p place (leb 10 places) refl e h
-  by-read (NotRead why) e h = absurd (omega (arith, number-range why))
+  by-checks : (c : Checked) (f : Found) → readChecks (formAt form) frame ≡ c → foundIn frame ≡ f
+      → readAnswerBy c (headerLength (foundIn frame)) (userLength (foundIn frame) (segOf (formAt form)) frame) places % 256 ≡ 0 → WasRead form frame places
+  by-checks passed (Known k) e ef h =
+      by-room k (leb 10 places) refl e ef (headerLength (foundIn frame) + 256 * userLength (foundIn frame) (segOf (formAt form)) frame) h
+  by-checks passed Unknown e ef h = absurd (never-unknown (formAt form) frame e ef)
+  by-checks (refusedAt why at) f e ef h = absurd (omega (arith, number-range why))
 
   was-read : readAnswer form frame places % 256 ≡ 0 → WasRead form frame places
   unfolding readAnswer
-  was-read h = by-read (readOf (formAt form) frame) refl h
+  was-read h = by-checks (readChecks (formAt form) frame) (foundIn frame) refl refl h
+
+-- what the call gives for a frame that reads, if there are ten places
+module _ (form : ℕ) (frame places : List ℕ) (room : 10 ≤ length places) where
+  -- its answer and the lent bytes afterwards, for a packet p with its user data at `place`
+  abbrev Gives : Packet → UserData → Type 0
+  Gives p place = (256 * (place .at + 256 * place .len) ≡ readAnswer form frame (length places)) × (over (packetBytes p) places ≡ readBytes form frame places)
+
+  of-kind : (k : Kind) → readChecks (formAt form) frame ≡ passed → foundIn frame ≡ Known k
+      → Gives (packetOf k (freeIn (layoutOf k) frame)) (record { at = layoutOf k .size; len = userLength (Known k) (segOf (formAt form)) frame })
+  of-kind k e ef =
+      let vs = freeIn (layoutOf k) frame in
+      let ten : packetBytes (packetOf k vs) ≡ tenBytes k vs = ap₂ tenBytes (kind-made k vs) (values-made k vs (free-in-range (layoutOf k) frame)) in (
+        sym (passed-answer form frame k ef e (length places) (packetLength (segOf (formAt form)) (layoutOf k) frame) room refl),
+        ap (λ (x : List ℕ). over x places) ten ∙ sym (passed-bytes form frame k ef e places room),
+      )
+
+  by-found : (p : Packet) (place : UserData) (c : Checked) (f : Found) → readChecks (formAt form) frame ≡ c → foundIn frame ≡ f
+      → readBy c f (segOf (formAt form)) frame ≡ PacketRead p place → Gives p place
+  by-found p place (refusedAt why at) f ec ef e = let z : _≡_ {A = ℕ} 0 1 = cc in absurd (omega arith)
+  by-found p place passed Unknown ec ef e = let z : _≡_ {A = ℕ} 0 1 = cc in absurd (omega arith)
+  by-found p place passed (Known k) ec ef e =
+      let there : UserData = record { at = layoutOf k .size; len = userLength (Known k) (segOf (formAt form)) frame } in
+      let packet : packetOf k (freeIn (layoutOf k) frame) ≡ p = cc in
+      let at : there ≡ place = cc in
+      subst (λ (x : Packet). Gives x place) packet (subst (Gives (packetOf k (freeIn (layoutOf k) frame))) at (of-kind k ec ef))
+
+  done-read : (p : Packet) (place : UserData) → readOf (formAt form) frame ≡ PacketRead p place → Gives p place
+  unfolding readOf
+  done-read p place e = by-found p place (readChecks (formAt form) frame) (foundIn frame) refl refl e
+
+-- a packet is short
+read-few : (form : Form) (frame : List ℕ) (p : Packet) (place : UserData) → readOf form frame ≡ PacketRead p place → place .at + place .len ≤ 160
+read-few form frame p place e =
+    let f = reads-frame form frame p place e in
+    omega (arith, f .header-first, f .most, most-range form (f .good) .1)
 
 -- the user data that an answer names is that at the place which was read, as its start is small
 named : (answer : ℕ) (frame : List ℕ) (place : UserData) → 256 * (place .at + 256 * place .len) ≡ answer → place .at < 256
@@ -140,7 +232,7 @@ written-is-read form packet user out places h room =
     (ap (λ (x : List ℕ). writeBytes form x user out) (sym (w .taken)) ∙ output-of form (w .p) user out) in
     let reads : readOf (formAt form) F ≡ PacketRead (w .p) (placeOf (w .p) (length user)) = ap (readOf (formAt form)) wrote-it ∙ back .fields in
     let small = read-few (formAt form) F (w .p) (placeOf (w .p) (length user)) reads in
-    let done = done-read form F places (w .p) (placeOf (w .p) (length user)) (sym reads) room in
+    let done = done-read form F places room (w .p) (placeOf (w .p) (length user)) reads in
     record {
       done = omega (arith, done .0);
       packet-back = sym (done .1) ∙ ap (λ (x : List ℕ). over x places) (w .taken);
@@ -153,12 +245,12 @@ written-is-read form packet user out places h room =
 module _ (form : ℕ) (frame places : List ℕ) (r : WasRead form frame (length places)) where
   ten-read : take 10 (readBytes form frame places) ≡ packetBytes (r .p)
   ten-read =
-      ap (take 10) (sym (done-read form frame places (r .p) (r .place) (sym (r .reads)) (r .room) .1))
+      ap (take 10) (sym (done-read form frame places (r .room) (r .p) (r .place) (r .reads) .1))
       ∙ take-at (packetBytes (r .p)) (drop (length (packetBytes (r .p))) places) 10 (round-trips .packet-back (r .p) .ten)
 
   user-read : userNamed (readAnswer form frame (length places)) frame ≡ partOf frame (r .place)
   user-read =
-      named (readAnswer form frame (length places)) frame (r .place) (done-read form frame places (r .p) (r .place) (sym (r .reads)) (r .room) .0)
+      named (readAnswer form frame (length places)) frame (r .place) (done-read form frame places (r .room) (r .p) (r .place) (r .reads) .0)
       (omega (arith, read-few (formAt form) frame (r .p) (r .place) (r .reads)))
 
 read-is-written : (form : ℕ) (frame places out : List ℕ) → 1 ≤ form → AreBytes frame → readAnswer form frame (length places) % 256 ≡ 0
@@ -195,7 +287,7 @@ frame-is-read form p user places holds room =
     let place = placeOf p (length user) in
     let read = by-layout .frame-is-read (formAt form) p user holds in
     let small = read-few (formAt form) F p place (read .fields) in
-    let done = done-read form F places p place (sym (read .fields)) room in
+    let done = done-read form F places room p place (read .fields) in
     record {
       done = omega (arith, done .0);
       packet-back = sym (done .1);

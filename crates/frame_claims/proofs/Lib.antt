@@ -2,5 +2,7 @@
 pub mod ByLayout
 pub mod ReadBack
 pub mod Refusing
+pub mod Stored
 pub mod Bytes
 pub mod Short
+pub mod Faults

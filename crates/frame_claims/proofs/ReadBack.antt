@@ -14,12 +14,11 @@ use Rattle.frame_fields.specs.Rows.{AreBytes}
 use Rattle.frame_form.specs.declared.Form.{Form}
 use Rattle.frame_form.specs.Forms.{segOf, isLong}
 use Rattle.frame_form.specs.Segments.{frameLength}
-use Rattle.frame_codec.specs.declared.Written.the-variants.{Done as WrittenDone}
-use Rattle.frame_codec.specs.Writing.{writtenBy}
 use Rattle.frame.specs.declared.Packet.{Packet}
+use Rattle.frame.specs.declared.Written.the-variants.{Done as WrittenDone}
 use Rattle.frame.specs.declared.UserData.{UserData}
 use Rattle.frame.specs.declared.Read.the-variants.{Packet as PacketRead}
-use Rattle.frame.specs.Writing.{lengthOf, frameOf, frameVerdict, writeOf, writeOutput}
+use Rattle.frame.specs.Writing.{lengthOf, frameOf, frameVerdict, writtenBy, writeOf, writeOutput}
 use Rattle.frame.specs.Reading.{readOf, partOf, placeOf}
 use Rattle.frame_claims.specs.ReadBack.{WrittenIsRead, ReadIsWritten, ReadBack}
 use Rattle.frame.proofs.Frames.{written-done, accepted, accepts, frame-length, output-is}

@@ -10,8 +10,8 @@ use Rattle.refusal.specs.declared.Verdict.{Verdict}
 use Rattle.refusal.specs.declared.Verdict.the-variants.{Done, Refused}
 use Rattle.frame_form.specs.Forms.{segOf}
 use Rattle.frame_form.specs.Segments.{frameLength}
-use Rattle.frame_codec.specs.Writing.{writtenNumber, writtenBytes, writtenBy, outputBy}
-use Rattle.frame.specs.Writing.{lengthOf, frameOf, frameVerdict, writeOf, writeOutput}
+use Rattle.frame_writer.specs.Writing.{outputBy}
+use Rattle.frame.specs.Writing.{writtenNumber, writtenBytes, lengthOf, frameOf, frameVerdict, writtenBy, writeOf, writeOutput}
 use Rattle.frame_claims.specs.Refusing.{RefusalsChangeNothing}
 
 write-by : (v : Verdict) (n : ℕ) (frame out : List ℕ) → writtenNumber (writtenBy v n) ≢ 0 → (writtenBytes (writtenBy v n) ≡ 0) × (outputBy v frame out ≡ out)

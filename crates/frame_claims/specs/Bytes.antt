@@ -1,8 +1,9 @@
--- Demand 2 of the calls on lent bytes, `write` and `read` of `frame_bytes`: "A frame written is
--- read back to the same fields, and a frame read is written back to the same bytes." A form is a
--- number, a packet is ten bytes, and what a call did is read off the number that it returns and the
--- lent bytes. Reading is claimed for every form, what is written for the long ones, with the
--- numbers 1 to 17 (document 02, Q-14). proofs/Bytes.antt proves it (`read-back-of-bytes`).
+-- Demand 2 of the calls on lent bytes, `write` of `frame_writer` and `read` of `frame_reader`: "A
+-- frame written is read back to the same fields, and a frame read is written back to the same
+-- bytes." A form is a number, a packet is ten bytes, and what a call did is read off the number
+-- that it returns and the lent bytes. Reading is claimed for every form, what is written for the
+-- long ones, with the numbers 1 to 17 (document 02, Q-14). proofs/Bytes.antt proves it
+-- (`read-back-of-bytes`).
 -- Assumes nothing.
 use mathlib.Core.Path.{_≡_}
 use mathlib.Core.List.{List}
@@ -11,9 +12,11 @@ use lib.ListN.{length, take, drop}
 use Rattle.lists.specs.Lists.{over}
 use Rattle.frame_fields.specs.Rows.{AreBytes}
 use Rattle.frame_form.specs.Forms.{formAt}
+use Rattle.frame_reader.specs.Reading.{readAnswer, readBytes}
+use Rattle.frame_writer.specs.Writing.{writeAnswer, writeBytes}
 use Rattle.frame.specs.declared.Packet.{Packet}
+use Rattle.frame.specs.Packets.{packetBytes}
 use Rattle.frame.specs.Writing.{frameOf}
-use Rattle.frame_bytes.specs.Stored.{packetBytes, writeAnswer, writeBytes, readAnswer, readBytes}
 use Rattle.frame_claims.specs.ByLayout.{CanHold}
 
 -- the frame that `write` left at the front of the lent output: its length is in the bits of the

@@ -4,3 +4,5 @@ pub mod ReadBack
 pub mod Short
 pub mod Refusing
 pub mod Bytes
+pub mod Stored
+pub mod Faults

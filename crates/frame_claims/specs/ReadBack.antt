@@ -14,8 +14,8 @@ use Rattle.lists.specs.Lists.{over}
 use Rattle.frame_fields.specs.Rows.{AreBytes}
 use Rattle.frame_form.specs.declared.Form.{Form}
 use Rattle.frame_form.specs.Forms.{isLong}
-use Rattle.frame_codec.specs.declared.Written.the-variants.{Done}
 use Rattle.frame.specs.declared.Packet.{Packet}
+use Rattle.frame.specs.declared.Written.the-variants.{Done}
 use Rattle.frame.specs.declared.UserData.{UserData}
 use Rattle.frame.specs.declared.Read.the-variants.{Packet as PacketRead}
 use Rattle.frame.specs.Writing.{writeOf, writeOutput}

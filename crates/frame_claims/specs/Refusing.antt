@@ -7,9 +7,8 @@ use mathlib.Core.Logic.{_≢_}
 use Prim.Native.Nat.{ℕ}
 use lib.ListN.{length}
 use Rattle.frame_form.specs.declared.Form.{Form}
-use Rattle.frame_codec.specs.Writing.{writtenNumber, writtenBytes}
 use Rattle.frame.specs.declared.Packet.{Packet}
-use Rattle.frame.specs.Writing.{writeOf, writeOutput}
+use Rattle.frame.specs.Writing.{writtenNumber, writtenBytes, writeOf, writeOutput}
 
 -- if the number that the writer answers is not 0, its count of bytes is 0 and the lent output is
 -- unchanged

@@ -11,12 +11,13 @@ use Rattle.refusal.specs.declared.Refusal.the-variants.{OutOfRange, ShortForm}
 use Rattle.frame_form.specs.declared.Form.{Form}
 use Rattle.frame_form.specs.declared.Form.the-variants.{ShortUplink}
 use Rattle.frame_form.specs.Forms.{isLong}
-use Rattle.frame_codec.specs.declared.Written.the-variants.{Refused}
-use Rattle.frame_codec.specs.Writing.{writtenNumber}
+use Rattle.frame_reader.specs.Reading.{readAnswer}
+use Rattle.frame_writer.specs.Writing.{writeAnswer}
 use Rattle.frame.specs.declared.Packet.{Packet}
-use Rattle.frame.specs.Writing.{fits, writeOf}
+use Rattle.frame.specs.declared.Written.the-variants.{Refused}
+use Rattle.frame.specs.Packets.{packetBytes}
+use Rattle.frame.specs.Writing.{writtenNumber, fits, writeOf}
 use Rattle.frame.specs.Reading.{readNumber, readOf}
-use Rattle.frame_bytes.specs.Stored.{packetBytes, writeAnswer, readAnswer}
 
 pub record ShortNotWritten : Type 0 where
   -- in the short form, whatever the length of the packet and the room: 1 if a value does not fit

@@ -1,4 +1,6 @@
 -- What is proved of rows and headers.
+
 pub mod Rows
 pub mod Headers
+pub mod Masks
 pub mod Tags

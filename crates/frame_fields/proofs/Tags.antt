@@ -15,7 +15,8 @@ use Rattle.refusal.proofs.Checks.{both-true}
 use Rattle.frame_fields.specs.Rows.{total, packAfter, pack, InRange, eights, bytesOf}
 use Rattle.frame_fields.specs.Layouts.{Field, fixed, free, lv, Layout, fields, widths, allValues, within, headerNumber, header, tagWidth, tag, opensWith}
 use Rattle.frame_fields.proofs.Rows.{pack-leads, pack-lt, total-append, pack-append}
-use Rattle.frame_fields.proofs.Headers.{holds, values-range}
+use Rattle.frame_fields.specs.Masks.{inBytes}
+use Rattle.frame_fields.proofs.Headers.{holds, oneLv, values-range}
 
 abbrev pub allFixed : List Field → Bool
 allFixed [] = true
@@ -29,6 +30,8 @@ pub record Sound (m : ℕ) (l : Layout) : Type 0 where
   pub values : holds m (fields l) ≡ true
   pub bytes : 1 ≤ l .size
   pub named : allFixed (l .kind) ≡ true
+  pub bytewise : inBytes (fields l) 0 ≡ true
+  pub single : oneLv (fields l) ≡ true
   pub short : tagWidth l ≤ 8
 
 widths-append : (fs gs : List Field) → widths (fs ++ gs) ≡ widths fs ++ widths gs

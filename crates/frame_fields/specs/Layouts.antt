@@ -1,10 +1,10 @@
 -- Headers: a packet's header is a list of fields; how a header is written, and how its values are
--- read (document 01, "Forms and frames"). Crate `frame` defines the fields of each packet (its
--- specs/Packets.antt).
+-- read (document 01, "Forms and frames"). Crate `frame_kinds` defines the fields of each packet (its
+-- specs/Kinds.antt).
 -- Assumes nothing.
-use mathlib.Core.Bool.{Bool, true, false, _&&_}
+use mathlib.Core.Bool.{Bool, true, false, cond, _&&_}
 use mathlib.Core.List.{List, [], _∷_, _++_}
-use Prim.Native.Nat.{ℕ, _-_, _/_, _^_}
+use Prim.Native.Nat.{ℕ, _+_, _-_, _/_, _^_}
 use lib.Dec.{ltb, eqb}
 use Rattle.frame_fields.specs.Rows.{total, pack, unpack, bytesOf, numberIn}
 
@@ -92,15 +92,20 @@ lvIn (fixed w v ∷ fs) (x ∷ xs) = lvIn fs xs
 lvIn (free w ∷ fs) (x ∷ xs) = lvIn fs xs
 lvIn (lv w ∷ fs) (x ∷ xs) = x
 
--- there are as many values as fields, every fixed field, fill included, has its right value, and LV
--- is u
-abbrev pub fixedRight : List Field → ℕ → List ℕ → Bool
-fixedRight [] u [] = true
-fixedRight [] u (x ∷ xs) = false
-fixedRight (f ∷ fs) u [] = false
-fixedRight (fixed w v ∷ fs) u (x ∷ xs) = eqb x v && fixedRight fs u xs
-fixedRight (free w ∷ fs) u (x ∷ xs) = fixedRight fs u xs
-fixedRight (lv w ∷ fs) u (x ∷ xs) = eqb x u && fixedRight fs u xs
+-- the byte of the header that has the first fixed field, fill included, with another value than its
+-- right one; `none` if there is no such field. The fields fs begin at bit `bit` of the header, and
+-- xs are their values (document 02, Q-5: "the first byte in frame order that holds a wrong fixed
+-- field, fill ..")
+abbrev pub firstWrong : List Field → ℕ → List ℕ → ℕ → ℕ
+firstWrong [] bit xs none = none
+firstWrong (f ∷ fs) bit [] none = none
+firstWrong (fixed w v ∷ fs) bit (x ∷ xs) none = cond (eqb x v) (firstWrong fs (bit + w) xs none) (bit / 8)
+firstWrong (free w ∷ fs) bit (x ∷ xs) none = firstWrong fs (bit + w) xs none
+firstWrong (lv w ∷ fs) bit (x ∷ xs) none = firstWrong fs (bit + w) xs none
+
+-- the same of a frame's header; the header's length if no fixed field is wrong
+abbrev pub wrongByte : Layout → List ℕ → ℕ
+wrongByte l frame = firstWrong (fields l) 0 (valuesIn l frame) (l .size)
 
 -- the number of bits that identify the kind of packet
 abbrev pub tagWidth : Layout → ℕ

@@ -1,2 +1,2 @@
-// Headers as lists of fields, for `frame_codec` and `frame`: specs/ has the definitions, proofs/
+// Headers as lists of fields, for `frame_kinds` and the crates above it: specs/ has the definitions, proofs/
 // the laws. There is no code here.

@@ -1,16 +1,16 @@
 -- Facts about the segments and the largest packets of the forms, proved form by form.
 -- Assumes nothing.
-use mathlib.Core.Path.{_≡_, refl, sym, ap}
-use mathlib.Core.Bool.{Bool, true, false, true≢false}
-use Prim.Native.Nat.{ℕ, _+_, _-_, _*_, _/_, _%_, _<_, _≤_}
-use native.Mathlib.Nat.{mod-mod-of-dvd, dvd-of-mod-eq-zero}
+use mathlib.Core.Path.{_≡_, refl, sym, ap, _∙_}
+use mathlib.Core.Bool.{Bool, true, false, cond, _&&_, true≢false}
+use Prim.Native.Nat.{ℕ, _%_, _≤_}
 use native.Mathlib.Omega.{arith}
 use lib.Dec.{leb, eqb}
-use borrow.Author.Tests.{leb-true, eq-eqb, ne-eqb, eqb-true, eqb-false}
+use borrow.Author.Tests.{leb-true, leb-false, le-leb, lt-leb, eq-eqb, ne-eqb, eqb-true, eqb-false}
 use Rattle.refusal.proofs.Checks.{both-true}
 use Rattle.frame_form.specs.declared.Form.{Form}
 use Rattle.frame_form.specs.declared.Form.the-variants.{ShortUplink, LongUplink, LongDownlink}
-use Rattle.frame_form.specs.Forms.{longSegment, segOf, mostOf, formValid, isLong, formAt}
+use Rattle.frame_form.specs.Forms.{longSegment, segOf, mostOf, formValid, isLong, formAt, formNumber, formCode}
+use Rattle.frame_form.specs.Segments.{wholeSegments}
 
 -- every segment holds a header
 pub segment-seven : (form : Form) → 7 ≤ segOf form
@@ -41,28 +41,6 @@ most-range (LongDownlink n) e =
     let p = both-true (leb 1 n) (leb n 16) e in
     omega (arith, leb-true 1 n (p .0), leb-true n 16 (p .1))
 
--- the number of segments for k bytes, computed with the reciprocal r of the segment size s: all
--- products are small, the segments hold k bytes, and the bytes left over are the padding of k bytes
-pub record Filled (form : Form) (k s r : ℕ) : Type 0 where
-  pub product : (k + s - 1) * r ≤ 739677
-  pub few : (k + s - 1) * r / 65536 * s ≤ 79
-  pub hold : k ≤ (k + s - 1) * r / 65536 * s
-  pub over : (k + s - 1) * r / 65536 * s - k ≡ (segOf form - k % segOf form) % segOf form
-
-pub filled : (form : Form) (k s r : ℕ) → k < 70 → s ≡ segOf form → r ≡ 65535 / segOf form + 1 → Filled form k s r
-filled ShortUplink k s r h es er = rw (es, er) (record { product = omega arith; few = omega arith; hold = omega arith; over = omega arith })
-filled LongUplink k s r h es er = rw (es, er) (record { product = omega arith; few = omega arith; hold = omega arith; over = omega arith })
-filled (LongDownlink n) k s r h es er = rw (es, er) (record { product = omega arith; few = omega arith; hold = omega arith; over = omega arith })
-
--- every segment size divides 70
-divides-seventy : (form : Form) → 70 % segOf form ≡ 0
-divides-seventy ShortUplink = refl
-divides-seventy LongUplink = refl
-divides-seventy (LongDownlink n) = refl
-
-pub past-seventy : (form : Form) (n : ℕ) → n % 70 % segOf form ≡ n % segOf form
-past-seventy form n = mod-mod-of-dvd (segOf form) n (dvd-of-mod-eq-zero (segOf form) (divides-seventy form))
-
 -- ---- the form with a given number
 
 pub at-short : (n : ℕ) → n ≡ 0 → formAt n ≡ ShortUplink
@@ -84,3 +62,59 @@ long-at n more = go (eqb n 17) refl
     go : (b : Bool) → eqb n 17 ≡ b → isLong (formAt n) ≡ true
     go true e = ap isLong (at-long n (λ z. omega arith) (eqb-true n 17 e))
     go false e = ap isLong (at-downlink n (λ z. omega arith) (eqb-false n 17 e))
+
+-- ---- by the number
+
+pub segment-short : (n : ℕ) → n ≡ 0 → segOf (formAt n) ≡ 7
+segment-short n e = ap segOf (at-short n e)
+
+pub segment-long : (n : ℕ) → (n ≡ 0 → ⊥) → segOf (formAt n) ≡ longSegment
+segment-long n z = long-segment (formAt n) (long-at n (omega (arith, z)))
+
+pub valid-at : (n : ℕ) → formValid (formAt n) ≡ leb n 17
+valid-at n = go (eqb n 0) (eqb n 17) refl refl
+  where
+    but-one : (b : Bool) → leb n 17 ≡ b → (n ≡ 17 → ⊥) → leb n 16 ≡ leb n 17
+    but-one true e o = le-leb n 16 (omega (arith, leb-true n 17 e, o)) ∙ sym e
+    but-one false e o = lt-leb n 16 (omega (arith, leb-false n 17 e)) ∙ sym e
+
+    go : (a b : Bool) → eqb n 0 ≡ a → eqb n 17 ≡ b → formValid (formAt n) ≡ leb n 17
+    go true b ea eb = let e = eqb-true n 0 ea in ap formValid (at-short n e) ∙ sym (le-leb n 17 (omega (arith, e)))
+    go false true ea eb = let e = eqb-true n 17 eb in ap formValid (at-long n (eqb-false n 0 ea) e) ∙ sym (le-leb n 17 (omega (arith, e)))
+    go false false ea eb =
+        let z = eqb-false n 0 ea in
+        let o = eqb-false n 17 eb in
+        ap formValid (at-downlink n z o) ∙ ap (λ (b : Bool). b && leb n 16) (le-leb 1 n (omega (arith, z))) ∙ but-one (leb n 17) refl o
+
+-- the number by which a form is handed on gives the form again, or one that is not valid either
+pub code-back : (f : Form) → formValid f ≡ true → formAt (formCode f) ≡ f
+unfolding formCode
+code-back ShortUplink e = at-short 0 refl
+code-back LongUplink e = at-long 17 (λ z. omega arith) refl
+code-back (LongDownlink n) e =
+    let p = both-true (leb 1 n) (leb n 16) e in
+    let low = leb-true 1 n (p .0) in
+    let high = leb-true n 16 (p .1) in
+    ap (λ (b : Bool). formAt (cond b n 255)) e ∙ at-downlink n (λ z. omega arith) (λ z. omega arith)
+
+pub code-none : (f : Form) → formValid f ≡ false → formValid (formAt (formCode f)) ≡ false
+unfolding formCode
+code-none f e = ap (λ (b : Bool). formValid (formAt (cond b (formNumber f) 255))) e ∙ valid-at 255
+
+-- whole segments of a size that is known, at least one byte
+pub whole-of : (n seg len : ℕ) → segOf (formAt n) ≡ seg → (len ≡ 0 → ⊥) → eqb (len % seg) 0 ≡ wholeSegments (segOf (formAt n)) len
+unfolding wholeSegments
+whole-of n seg len e z =
+    sym (ap (λ (s : ℕ). leb 1 len && eqb (len % s) 0) e ∙ ap (λ (b : Bool). b && eqb (len % seg) 0) (le-leb 1 len (omega (arith, z))))
+
+pub whole-empty : (seg len : ℕ) → len ≡ 0 → wholeSegments seg len ≡ false
+unfolding wholeSegments
+whole-empty seg len e = ap (λ (b : Bool). b && eqb (len % seg) 0) (lt-leb 1 len (omega (arith, e)))
+
+pub code-valid : (f : Form) → formValid f ≡ true → formCode f ≡ formNumber f
+unfolding formCode
+code-valid f e = ap (λ (b : Bool). cond b (formNumber f) 255) e
+
+pub code-other : (f : Form) → formValid f ≡ false → formCode f ≡ 255
+unfolding formCode
+code-other f e = ap (λ (b : Bool). cond b (formNumber f) 255) e

@@ -1,4 +1,5 @@
--- What is proved of forms and segments.
+-- What is proved of forms, segments and frames.
 pub mod Segments
 pub mod Forms
+pub mod Frames
 pub mod Claims

@@ -48,6 +48,11 @@ formNumber ShortUplink = 0
 formNumber LongUplink = 17
 formNumber (LongDownlink n) = n
 
+-- the number by which any form is handed on: that of a valid form, and 255, which is none, for every
+-- other
+unfoldable pub formCode : Form → ℕ
+formCode f = cond (formValid f) (formNumber f) 255
+
 -- the claim about numbers of forms: the numbers 0 to 17 are those of the valid forms, one each
 pub record FormNumbers : Type 0 where
   pub form-back : (f : Form) → formValid f ≡ true → (formNumber f ≤ 17) × (formAt (formNumber f) ≡ f)

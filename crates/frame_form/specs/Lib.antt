@@ -1,3 +1,4 @@
--- The definitions that the contracts of `frame_form` cite.
+-- The definitions that the contracts of `frame_form` cite, and the bytes of a frame.
 pub mod Forms
 pub mod Segments
+pub mod Frames

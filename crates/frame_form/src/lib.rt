@@ -1,9 +1,9 @@
 // The forms of a frame, and how a packet's bytes fill their segments (document 01, "Forms and
 // frames").
 ghost use mathlib.Core.Path.{_≡_};
-ghost use Prim.Native.Nat.{_+_, _/_, _≤_};
-ghost use Rattle.frame_form.specs.Forms.{longSegment, segOf, mostOf, formValid, isLong, formAt};
-ghost use Rattle.frame_form.specs.Segments.{padding, lastUsed, wholeSegments};
+ghost use Prim.Native.Nat.{_≤_};
+ghost use Rattle.frame_form.specs.Forms.{longSegment, segOf, mostOf, formValid, isLong, formAt, formNumber, formCode};
+ghost use Rattle.frame_form.specs.Segments.{padding, wholeSegments};
 
 // The form of a frame: it gives the size of a segment and the size of the largest packet.
 pub enum Form {
@@ -14,9 +14,9 @@ pub enum Form {
 }
 
 impl Form {
-    // The form with the number `n`, for `frame_bytes` and `message_bytes`: 0 is the short uplink, 1
-    // to 16 the long downlink with that many segments, 17 the long uplink. The form is not valid if
-    // `n` is over 17.
+    // The form with the number `n`, for `message_bytes`: 0 is the short uplink, 1 to 16 the long
+    // downlink with that many segments, 17 the long uplink. The form is not valid if `n` is over
+    // 17.
     pub fn from_number(n: u8) -> Form
         ensures { λ r. ⌜ r ≡ formAt n ⌝ }
     {
@@ -26,6 +26,28 @@ impl Form {
             Form::LongUplink
         } else {
             Form::LongDownlink(n)
+        }
+    }
+
+    // The form's number, if the form is valid.
+    fn own_number(self) -> u8
+        ensures { λ r. ⌜ r ≡ formNumber self ⌝ }
+    {
+        match self {
+            Form::ShortUplink => 0,
+            Form::LongUplink => 17,
+            Form::LongDownlink(n) => n,
+        }
+    }
+
+    // The number of a valid form; 255, which is no form's, for another.
+    pub fn number(self) -> u8
+        ensures { λ r. ⌜ r ≡ formCode self ⌝ }
+    {
+        if self.is_valid() {
+            self.own_number()
+        } else {
+            255
         }
     }
 
@@ -75,52 +97,56 @@ impl Form {
         }
     }
 
-    // 65,536 divided by the segment size, rounded up.
-    fn reciprocal(self) -> usize
-        ensures { λ r. ⌜ r ≡ 65535 / segOf self + 1 ⌝ }
-    {
-        match self {
-            Form::ShortUplink => 9363,
-            Form::LongUplink => 6554,
-            Form::LongDownlink(_n) => 6554,
-        }
-    }
-
-    // The number of zero bytes that fill `n` bytes up to whole segments. To save time it does not
-    // divide by the segment size: both sizes divide 70, so `n % 70` bytes need the same padding,
-    // and a number below 80 is divided by multiplying with the reciprocal. The steps are the same
-    // for every form, so a compiler can merge two calls with the same arguments.
-    fn padding(self, n: usize) -> usize
-        ensures { λ r. ⌜ r ≡ padding (segOf self) n ⌝ }
-    {
-        let segment = self.segment();
-        let past = n % 70;
-        let segments = (past + segment - 1) * self.reciprocal() / 65536;
-        segments * segment - past
-    }
-
-    // Whether `len` bytes are a whole number of segments, at least one; for `frame_codec`.
-    pub fn is_whole(self, len: usize) -> bool
-        ensures { λ r. ⌜ r ≡ wholeSegments (segOf self) len ⌝ }
-    {
-        1 <= len && self.padding(len) == 0
-    }
-
     // The number of zero bytes that fill `n` bytes up to whole segments of a long form; for
-    // `frame_codec` and `message`, which write in the long forms only.
+    // `message`, which cuts in the long forms only.
     pub fn long_padding(n: usize) -> usize
         ensures { λ r. ⌜ r ≡ padding longSegment n ⌝ }
         ensures few { λ r. ⌜ r ≤ 9 ⌝ }
     {
         (10 - n % 10) % 10
     }
+}
 
-    // LV of a packet of `n` bytes in a long form: the number of bytes used in its last segment; for
-    // `frame`.
-    pub fn long_last_used(n: usize) -> usize
-        ensures { λ r. ⌜ r ≡ lastUsed longSegment n ⌝ }
-        ensures few { λ r. ⌜ (1 ≤ r) × (r ≤ 10) ⌝ }
-    {
-        10 - Form::long_padding(n)
+// ---- forms by their numbers, for `frame_reader` and `frame_writer`. Nothing is made of a number
+// that has to be taken apart again
+
+// Whether `n` is the number of a form.
+pub fn is_form(n: u8) -> bool
+    ensures { λ r. ⌜ r ≡ formValid (formAt n) ⌝ }
+{
+    n <= 17
+}
+
+// The size of a segment of the form with the number `n`, in bytes.
+pub fn segment_at(n: u8) -> usize
+    ensures { λ r. ⌜ r ≡ segOf (formAt n) ⌝ }
+{
+    if n == 0 { 7 } else { 10 }
+}
+
+// The size of the largest packet of the form with the number `n`, in bytes.
+pub fn most_at(n: u8) -> usize
+    ensures { λ r. ⌜ r ≡ mostOf (formAt n) ⌝ }
+{
+    if n == 0 {
+        28
+    } else if n == 17 {
+        152
+    } else {
+        10 * n as usize
     }
+}
+
+// Whether `len` bytes are a whole number of segments, at least one, of the form with the number
+// `n`.
+pub fn is_whole_at(n: u8, len: usize) -> bool
+    ensures { λ r. ⌜ r ≡ wholeSegments (segOf (formAt n)) len ⌝ }
+{
+    if len == 0 {
+        return false;
+    }
+    if n == 0 {
+        return len % 7 == 0;
+    }
+    len % 10 == 0
 }

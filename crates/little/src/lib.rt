@@ -4,7 +4,7 @@
 ghost use mathlib.Core.Path.{_≡_};
 ghost use Rattle.little.specs.Little.{flag};
 
-// A flag as a byte: 1 for true, 0 for false. For `window_bytes` and `frame_bytes`; not meant for
+// A flag as a byte: 1 for true, 0 for false. For `window_bytes` and `frame`; not meant for
 // other callers.
 pub fn flag(holds: bool) -> u8
     ensures { λ r. ⌜ r ≡ flag holds ⌝ }

@@ -9,9 +9,7 @@ use native.Mathlib.Omega.{arith}
 use lib.Dec.{eqb}
 use lib.ListN.{length, take, drop, getD, length-append, length-take, length-drop}
 use Rattle.refusal.specs.declared.Refusal.{Refusal}
-use Rattle.refusal.specs.declared.Verdict.{Verdict}
-use Rattle.refusal.specs.declared.Verdict.the-variants.{Done, Refused}
-use Rattle.refusal.specs.Numbers.{andThen}
+use Rattle.refusal.specs.Positions.{Checked, passed, refusedAt, andThenAt, allAt, from as shifted}
 use Rattle.lists.specs.Frames.{partsOf, sum, isNone}
 use Rattle.frame_form.specs.declared.Form.{Form}
 use Rattle.frame.specs.declared.Packet.{Packet}
@@ -25,29 +23,30 @@ use Rattle.frame.specs.declared.MaybeData.the-variants.{Nothing}
 use Rattle.message.specs.declared.joining.Turn.{Turn}
 use Rattle.message.specs.declared.joining.Turn.the-variants.{GoesOn, Refused as NotGoing}
 use Rattle.message.specs.declared.joining.Joined.the-variants.{Bytes, Refused as NotJoined}
-use Rattle.message.specs.Joining.{packetVerdict, turnVerdict, userOf, framesVerdict, messageIn, joinBy, userIn}
+use Rattle.message.specs.Joining.{packetVerdict, turnChecks, userOf, framesChecks, messageIn, joinBy, userIn}
 use Rattle.message.specs.JoiningParts.{turnBy, turnOf}
+use Rattle.message.proofs.Positions.{turn-near}
 use Rattle.message.proofs.Places.{from, At, last-is, none-parts, from-here, from-end, at-start, frame-in, at-next, part-is}
 
 -- ---- one frame
 
 -- a frame that reads, by the DATA packet that it is
 pub packet-turn : (before : MaybeData) (last : Bool) (p : Packet) (place : UserData) (frame : List ℕ)
-    → turnBy (packetVerdict before last (asData p)) (asData p) (length (partOf frame place)) ≡ turnOf before last (PacketRead p place) frame
+    → turnBy (allAt 0 (packetVerdict before last (asData p))) (asData p) (length (partOf frame place)) ≡ turnOf before last (PacketRead p place) frame
 packet-turn before last p place frame = refl
 
-turn-refused : (v : Verdict) (next : MaybeData) (user : ℕ) (why : Refusal) → turnBy v next user ≡ NotGoing why → v ≡ Refused why
-turn-refused Done next user why e = let z : _≡_ {A = ℕ} 0 1 = cc in absurd (omega arith)
-turn-refused (Refused y) next user why e = cc
+turn-refused : (c : Checked) (next : MaybeData) (user : ℕ) (why : Refusal) (at : ℕ) → turnBy c next user ≡ NotGoing why at → c ≡ refusedAt why at
+turn-refused passed next user why at e = let z : _≡_ {A = ℕ} 0 1 = cc in absurd (omega arith)
+turn-refused (refusedAt y q) next user why at e = cc
 
-turn-goes : (v : Verdict) (next next1 : MaybeData) (user user1 : ℕ) → turnBy v next user ≡ GoesOn next1 user1 → (v ≡ Done) × (next ≡ next1) × (user ≡ user1)
-turn-goes Done next next1 user user1 e = (refl, cc, cc)
-turn-goes (Refused y) next next1 user user1 e = let z : _≡_ {A = ℕ} 0 1 = cc in absurd (omega arith)
+turn-goes : (c : Checked) (next next1 : MaybeData) (user user1 : ℕ) → turnBy c next user ≡ GoesOn next1 user1 → (c ≡ passed) × (next ≡ next1) × (user ≡ user1)
+turn-goes passed next next1 user user1 e = (refl, cc, cc)
+turn-goes (refusedAt y q) next next1 user user1 e = let z : _≡_ {A = ℕ} 0 1 = cc in absurd (omega arith)
 
 -- a frame's user data is no longer than the frame
 user-least : (r : Read) (frame : List ℕ) → length (userOf r frame) ≤ length frame
 user-least (PacketRead p place) frame = simp (length-take, length-drop) (omega arith)
-user-least (NotRead why) frame = omega arith
+user-least (NotRead why at) frame = omega arith
 
 -- ---- the user data of all frames
 
@@ -69,54 +68,69 @@ module _ (form : Form) (ls bytes : List ℕ) (p i : ℕ) where
 
 pub record Judging (form : Form) (ls bytes : List ℕ) (before : MaybeData) (total p i : ℕ) : Type 0 where
   pub at : At ls bytes p i
-  pub verdict : framesVerdict form before (from ls bytes p i) ≡ framesVerdict form Nothing (partsOf ls bytes)
+  pub checks : framesChecks form before p (from ls bytes p i) ≡ framesChecks form Nothing 0 (partsOf ls bytes)
   pub counted : total + length (messageIn form (from ls bytes p i)) ≡ length (messageIn form (partsOf ls bytes))
   pub least : total ≤ p
 
 pub starts : (form : Form) (ls bytes : List ℕ) → sum ls ≡ length bytes → Judging form ls bytes Nothing 0 0 0
-starts form ls bytes e = record { at = at-start ls bytes e; verdict = refl; counted = omega arith; least = omega arith }
+starts form ls bytes e = record { at = at-start ls bytes e; checks = refl; counted = omega arith; least = omega arith }
 
 module _ (form : Form) (ls bytes : List ℕ) (before : MaybeData) (total p i : ℕ) (v : Judging form ls bytes before total p i) (h : i < length ls) where
-  verdict-here : framesVerdict form Nothing (partsOf ls bytes)
-      ≡ andThen (turnVerdict before (eqb (i + 1) (length ls)) (readOf form (take (getD ls i 0) (drop p bytes))))
-      (framesVerdict form (dataIn (readOf form (take (getD ls i 0) (drop p bytes)))) (from ls bytes (p + getD ls i 0) (i + 1)))
-  unfolding framesVerdict
-  verdict-here =
+  checks-here : framesChecks form Nothing 0 (partsOf ls bytes)
+      ≡ andThenAt (shifted p (turnChecks before (eqb (i + 1) (length ls)) (readOf form (take (getD ls i 0) (drop p bytes)))))
+      (framesChecks form (dataIn (readOf form (take (getD ls i 0) (drop p bytes)))) (p + getD ls i 0) (from ls bytes (p + getD ls i 0) (i + 1)))
+  unfolding framesChecks
+  checks-here =
       let r = readOf form (take (getD ls i 0) (drop p bytes)) in
       let rest = from ls bytes (p + getD ls i 0) (i + 1) in
       let last : isNone rest ≡ eqb (i + 1) (length ls) = none-parts (drop (i + 1) ls) (drop (p + getD ls i 0) bytes) ∙ last-is ls (i + 1) (omega arith) in
-      sym (v .verdict) ∙ ap (framesVerdict form before) (from-here ls bytes p i h)
-      ∙ ap (λ (b : Bool). andThen (turnVerdict before b r) (framesVerdict form (dataIn r) rest)) last
+      sym (v .checks) ∙ ap (framesChecks form before p) (from-here ls bytes p i h)
+      ∙ ap₂ (λ (b : Bool) (l : ℕ). andThenAt (shifted p (turnChecks before b r)) (framesChecks form (dataIn r) (p + l) rest)) last (frame-in ls bytes p i (v .at) h .1)
 
   module _ (turn : Turn) (e : turn ≡ turnOf before (eqb (i + 1) (length ls)) (readOf form (take (p + getD ls i 0 - p) (drop p bytes))) (take (p + getD ls i 0 - p) (drop p bytes))) where
     turn-here : turn ≡ turnOf before (eqb (i + 1) (length ls)) (readOf form (take (getD ls i 0) (drop p bytes))) (take (getD ls i 0) (drop p bytes))
     turn-here = e ∙ ap (λ (f : List ℕ). turnOf before (eqb (i + 1) (length ls)) (readOf form f) f) (part-is bytes p (getD ls i 0))
 
-    pub stops : (why : Refusal) → turn ≡ NotGoing why → NotJoined why ≡ joinBy (framesVerdict form Nothing (partsOf ls bytes)) (length (messageIn form (partsOf ls bytes)))
-    stops why w =
+    -- the frame is refused
+    refused : (why : Refusal) (at : ℕ) → turn ≡ NotGoing why at
+        → turnChecks before (eqb (i + 1) (length ls)) (readOf form (take (getD ls i 0) (drop p bytes))) ≡ refusedAt why at
+    refused why at w =
         let frame = take (getD ls i 0) (drop p bytes) in
         let r = readOf form frame in
-        let rest = framesVerdict form (dataIn r) (from ls bytes (p + getD ls i 0) (i + 1)) in
-        let no = turn-refused (turnVerdict before (eqb (i + 1) (length ls)) r) (dataIn r) (length (userOf r frame)) why (sym turn-here ∙ w) in
-        sym (ap (λ (x : Verdict). joinBy x (length (messageIn form (partsOf ls bytes)))) (verdict-here ∙ ap (λ (x : Verdict). andThen x rest) no))
+        turn-refused (turnChecks before (eqb (i + 1) (length ls)) r) (dataIn r) (length (userOf r frame)) why at (sym turn-here ∙ w)
+
+    -- at a place inside the frame or at its end
+    pub stops-inside : (why : Refusal) (at : ℕ) → turn ≡ NotGoing why at → p + at ≤ length bytes
+    stops-inside why at w =
+        let f = frame-in ls bytes p i (v .at) h in
+        let near = turn-near before (eqb (i + 1) (length ls)) form (take (getD ls i 0) (drop p bytes)) why at (refused why at w) in
+        omega (arith, near, f .0, f .1)
+
+    pub stops : (why : Refusal) (at : ℕ) → turn ≡ NotGoing why at
+        → NotJoined why (p + at) ≡ joinBy (framesChecks form Nothing 0 (partsOf ls bytes)) (length (messageIn form (partsOf ls bytes)))
+    stops why at w =
+        let r = readOf form (take (getD ls i 0) (drop p bytes)) in
+        let rest = framesChecks form (dataIn r) (p + getD ls i 0) (from ls bytes (p + getD ls i 0) (i + 1)) in
+        sym
+        (ap (λ (x : Checked). joinBy x (length (messageIn form (partsOf ls bytes)))) (checks-here ∙ ap (λ (x : Checked). andThenAt (shifted p x) rest) (refused why at w)))
 
     pub turns : (next : MaybeData) (user : ℕ) → turn ≡ GoesOn next user → Judging form ls bytes next (total + user) (p + getD ls i 0) (i + 1)
     turns next user w =
         let frame = take (getD ls i 0) (drop p bytes) in
         let r = readOf form frame in
         let rest = from ls bytes (p + getD ls i 0) (i + 1) in
-        let yes = turn-goes (turnVerdict before (eqb (i + 1) (length ls)) r) (dataIn r) next (length (userOf r frame)) user (sym turn-here ∙ w) in
+        let yes = turn-goes (turnChecks before (eqb (i + 1) (length ls)) r) (dataIn r) next (length (userOf r frame)) user (sym turn-here ∙ w) in
         record {
           at = at-next ls bytes p i (v .at) h;
-          verdict = sym (verdict-here ∙ ap₂ (λ (x : Verdict) (y : MaybeData). andThen x (framesVerdict form y rest)) (yes .0) (yes .1));
+          checks = sym (checks-here ∙ ap₂ (λ (x : Checked) (y : MaybeData). andThenAt (shifted p x) (framesChecks form y (p + getD ls i 0) rest)) (yes .0) (yes .1));
           counted = omega (arith, v .counted, message-here form ls bytes p i h, yes .2);
           least = omega (arith, v .least, user-least r frame, frame-in ls bytes p i (v .at) h .1, yes .2);
         }
 
 pub ends : (form : Form) (ls bytes : List ℕ) (before : MaybeData) (total p i : ℕ) → Judging form ls bytes before total p i → length ls ≤ i
-    → Bytes total ≡ joinBy (framesVerdict form Nothing (partsOf ls bytes)) (length (messageIn form (partsOf ls bytes)))
-unfolding framesVerdict
+    → Bytes total ≡ joinBy (framesChecks form Nothing 0 (partsOf ls bytes)) (length (messageIn form (partsOf ls bytes)))
+unfolding framesChecks
 ends form ls bytes before total p i v h =
     let all : total ≡ length (messageIn form (partsOf ls bytes)) = omega (arith, v .counted, message-end form ls bytes p i h) in
     ap Bytes all
-    ∙ sym (ap (λ (x : Verdict). joinBy x (length (messageIn form (partsOf ls bytes)))) (sym (v .verdict) ∙ ap (framesVerdict form before) (from-end ls bytes p i h)))
+    ∙ sym (ap (λ (x : Checked). joinBy x (length (messageIn form (partsOf ls bytes)))) (sym (v .checks) ∙ ap (framesChecks form before p) (from-end ls bytes p i h)))

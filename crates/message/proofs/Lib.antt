@@ -5,6 +5,7 @@ pub mod Steps
 pub mod Passed
 -- The laws of joining.
 pub mod Places
+pub mod Positions
 pub mod Judging
 pub mod Users
 pub mod Copying

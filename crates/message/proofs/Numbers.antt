@@ -8,13 +8,14 @@ use lib.ListN.{length}
 use Rattle.refusal.specs.declared.Verdict.{Verdict}
 use Rattle.refusal.specs.declared.Verdict.the-variants.{Done, Refused}
 use Rattle.refusal.specs.Numbers.{verdictNumber, valueBy}
+use Rattle.refusal.specs.Positions.{Checked, passed, refusedAt, verdictOf, checkedNumber, positionOf}
 use Rattle.lists.specs.Frames.{bytesIn, partsOf}
 use Rattle.frame_form.specs.declared.Form.{Form}
 use Rattle.message.specs.declared.cutting.Start.{Start}
 use Rattle.message.specs.declared.cutting.Cut.{Cut}
 use Rattle.message.specs.declared.joining.Joined.{Joined}
 use Rattle.message.specs.Cutting.{cutNumber, cutCount, cutBytes, framesOf, cutVerdict, cutBy, cutOf, cutOutput, cutLengths}
-use Rattle.message.specs.Joining.{joinedNumber, joinedBytes, messageIn, joinVerdict, joinBy, joinOf, joinOutput}
+use Rattle.message.specs.Joining.{joinedNumber, joinedBytes, joinedPosition, messageIn, joinChecks, joinBy, joinOf, joinOutput}
 
 -- of an answer of cutting that is made of a verdict and the frames
 pub cut-by : (v : Verdict) (frames : List (List ℕ)) (r : Cut) → r ≡ cutBy v frames
@@ -22,10 +23,11 @@ pub cut-by : (v : Verdict) (frames : List (List ℕ)) (r : Cut) → r ≡ cutBy 
 cut-by Done frames r e = (ap cutNumber e, (ap cutCount e, ap cutBytes e))
 cut-by (Refused why) frames r e = (ap cutNumber e, (ap cutCount e, ap cutBytes e))
 
--- of an answer of joining that is made of a verdict and the message's length
-pub join-by : (v : Verdict) (n : ℕ) (r : Joined) → r ≡ joinBy v n → (joinedNumber r ≡ verdictNumber v) × (joinedBytes r ≡ valueBy v n)
-join-by Done n r e = (ap joinedNumber e, ap joinedBytes e)
-join-by (Refused why) n r e = (ap joinedNumber e, ap joinedBytes e)
+-- of an answer of joining that is made of checks and the message's length
+pub join-by : (c : Checked) (n : ℕ) (r : Joined) → r ≡ joinBy c n
+    → (joinedNumber r ≡ checkedNumber c) × ((joinedPosition r ≡ positionOf c) × (joinedBytes r ≡ valueBy (verdictOf c) n))
+join-by passed n r e = (ap joinedNumber e, (ap joinedPosition e, ap joinedBytes e))
+join-by (refusedAt why at) n r e = (ap joinedNumber e, (ap joinedPosition e, ap joinedBytes e))
 
 -- ---- the clauses of each call
 
@@ -44,8 +46,9 @@ pub join-numbers : (form : Form) (ls bytes out last : List ℕ) (r : Joined)
     → (r ≡ joinOf form ls bytes (length out)) × (last ≡ joinOutput form ls bytes out)
     → (r ≡ joinOf form ls bytes (length out))
     × ((last ≡ joinOutput form ls bytes out)
-    × ((joinedNumber r ≡ verdictNumber (joinVerdict form ls bytes (length out)))
-    × (joinedBytes r ≡ valueBy (joinVerdict form ls bytes (length out)) (length (messageIn form (partsOf ls bytes))))))
+    × ((joinedNumber r ≡ checkedNumber (joinChecks form ls bytes (length out)))
+    × ((joinedPosition r ≡ positionOf (joinChecks form ls bytes (length out)))
+    × (joinedBytes r ≡ valueBy (verdictOf (joinChecks form ls bytes (length out))) (length (messageIn form (partsOf ls bytes)))))))
 unfolding joinOf
 join-numbers form ls bytes out last r e =
-    (e .0, (e .1, join-by (joinVerdict form ls bytes (length out)) (length (messageIn form (partsOf ls bytes))) r (e .0)))
+    (e .0, (e .1, join-by (joinChecks form ls bytes (length out)) (length (messageIn form (partsOf ls bytes))) r (e .0)))

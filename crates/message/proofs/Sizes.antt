@@ -12,12 +12,13 @@ use lib.Seq.{length-take-le}
 use borrow.Author.Tests.{leb-true, leb-false, ltb-true, lt-ltb}
 use Rattle.refusal.proofs.Checks.{both-true}
 use Rattle.lists.specs.Frames.{bytesIn}
+use Rattle.little.specs.Little.{flag}
 use Rattle.frame_form.specs.declared.Form.{Form}
 use Rattle.frame_form.specs.Forms.{segOf, mostOf, formValid}
 use Rattle.frame_form.specs.Segments.{frameLength}
 use Rattle.frame_form.proofs.Forms.{most-range}
+use Rattle.frame_writer.specs.Writing.{valuesFit}
 use Rattle.frame.specs.Writing.{fits, frameOf}
-use Rattle.frame.proofs.KindLaws.{flag-fits}
 use Rattle.frame.proofs.Frames.{frame-length}
 use Rattle.message.specs.declared.cutting.Start.{Start}
 use Rattle.message.specs.Cutting.{shareOf, fullFrames, dataOf, nextStart, framesFrom, framesOf}
@@ -119,7 +120,7 @@ pub record InRange (s : Start) : Type 0 where
 
 -- they are, if the first frame's packet may be written
 pub in-range : (s : Start) → fits (dataOf s false) 0 ≡ true → InRange s
-unfolding fits
+unfolding valuesFit
 in-range s e =
     let a = both-true (ltb (s .sn .0) 64 && (ltb (s .ps .0) 16 && (ltb (s .pr .0) 16 && (ltb (s .ch) 16 && true)))) true e in
     let b = both-true (ltb (s .sn .0) 64) (ltb (s .ps .0) 16 && (ltb (s .pr .0) 16 && (ltb (s .ch) 16 && true))) (a .0) in
@@ -133,9 +134,14 @@ in-range s e =
       channel = ltb-true (s .ch) 16 (f .0);
     }
 
+-- a flag fits its bit
+flag-fits : (b : Bool) → ltb (flag b) 2 ≡ true
+flag-fits true = refl
+flag-fits false = refl
+
 -- with M, and with user data, as well
 pub fits-all : (s : Start) (more : Bool) (user : ℕ) → InRange s → fits (dataOf s more) user ≡ true
-unfolding fits
+unfolding valuesFit
 fits-all s more user r =
     rw (flag-fits more, lt-ltb (s .sn .0) 64 (r .link), lt-ltb (s .ps .0) 16 (r .packet), lt-ltb (s .pr .0) 16 (r .back), lt-ltb (s .ch) 16 (r .channel))
 

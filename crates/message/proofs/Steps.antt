@@ -17,8 +17,9 @@ use Rattle.frame_form.specs.declared.Form.{Form}
 use Rattle.frame_form.specs.Forms.{formValid, isLong}
 use Rattle.frame_form.specs.Segments.{frameLength}
 use Rattle.frame_form.proofs.Forms.{long-segment}
+use Rattle.frame_kinds.specs.Kinds.{layoutOf}
 use Rattle.frame.specs.declared.Packet.{Packet}
-use Rattle.frame.specs.Packets.{kindOf, layoutOf}
+use Rattle.frame.specs.Packets.{kindOf}
 use Rattle.frame.specs.Writing.{fits, frameOf}
 use Rattle.frame.proofs.Frames.{frame-length}
 use Rattle.message.specs.declared.cutting.Start.{Start}

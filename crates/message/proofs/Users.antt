@@ -2,43 +2,40 @@
 -- checks that the frame passed leave no other place.
 -- Assumes nothing.
 use mathlib.Core.Path.{_≡_, refl, sym, ap, _∙_, subst}
-use mathlib.Core.Bool.{Bool, true, _&&_}
+use mathlib.Core.Bool.{Bool, true}
 use mathlib.Core.List.{List, [], _∷_}
 use Prim.Native.Nat.{ℕ, _+_, _-_, _%_, _≤_}
 use native.Mathlib.Nat.{div-one}
 use native.Mathlib.Omega.{arith}
-use lib.Dec.{leb}
 use lib.ListN.{length, take, drop, getD, length-drop}
 use lib.Seq.{length-take-le}
-use borrow.Author.Tests.{leb-true}
-use Rattle.refusal.specs.declared.Refusal.the-variants.{FormatError, PacketTooLong}
-use Rattle.refusal.specs.declared.Verdict.{Verdict}
-use Rattle.refusal.specs.declared.Verdict.the-variants.{Done, Refused}
-use Rattle.refusal.specs.Numbers.{check, andThen}
-use Rattle.refusal.proofs.Checks.{check-done, both-true, then-done}
+use Rattle.refusal.specs.declared.Verdict.the-variants.{Done}
+use Rattle.refusal.specs.Positions.{Checked, passed, refusedAt, from}
+use Rattle.refusal.proofs.Checks.{both-true, both-passed, from-passed, all-passed}
 use Rattle.lists.specs.Frames.{isNone}
 use Rattle.frame_fields.specs.Rows.{numberIn}
-use Rattle.frame_fields.specs.Layouts.{fields, valuesIn, lvIn, freeValues}
 use Rattle.frame_form.specs.declared.Form.{Form}
-use Rattle.frame_form.specs.Forms.{segOf, mostOf}
-use Rattle.frame_codec.specs.declared.SeenHeader.{SeenHeader}
-use Rattle.frame_codec.specs.declared.UserLength.{UserLength}
-use Rattle.frame_codec.specs.declared.UserLength.the-variants.{Bytes, Refused as NotLong}
-use Rattle.frame_codec.specs.Frames.{allZero}
-use Rattle.frame_codec.specs.Reading.{packetLength, lengthRight, shapeVerdict, contentVerdict, readVerdict, userLengthBy, userLengthOf}
-use Rattle.frame_codec.proofs.Reading.{shape-some}
-use Rattle.frame.specs.declared.Kind.{Kind}
-use Rattle.frame.specs.declared.Kind.the-variants.{Data as DataKind}
-use Rattle.frame.specs.declared.Found.{Found}
-use Rattle.frame.specs.declared.Found.the-variants.{Known, Unknown}
+use Rattle.frame_form.specs.Forms.{segOf}
+use Rattle.frame_form.proofs.Forms.{segment-some, segment-seven}
+use Rattle.frame_form.proofs.Segments.{whole-some, whole-none-over}
+use Rattle.frame_kinds.specs.declared.Kind.{Kind}
+use Rattle.frame_kinds.specs.declared.Kind.the-variants.{Data as DataKind}
+use Rattle.frame_kinds.specs.declared.Found.{Found}
+use Rattle.frame_kinds.specs.declared.Found.the-variants.{Known, Unknown}
+use Rattle.frame_kinds.specs.Kinds.{dataLayout}
+use Rattle.frame_kinds.proofs.Table.{sound}
+use Rattle.frame_reader.specs.Faults.{packetLength, firstFault}
+use Rattle.frame_reader.specs.Reading.{foundIn, faultOf, valuesAs, readChecks}
+use Rattle.frame.specs.declared.MaybeData.{MaybeData}
 use Rattle.frame.specs.declared.MaybeData.the-variants.{Nothing, Data as SomeData}
 use Rattle.frame.specs.declared.Read.{Read}
 use Rattle.frame.specs.declared.Read.the-variants.{Packet as PacketRead, Refused as NotRead}
-use Rattle.frame.specs.Packets.{dataLayout, layoutOf, packetOf, asData, kinds}
-use Rattle.frame.specs.Reading.{firstNamed, seenIn, readBy, unknownBy, readAs, readOf, dataIn}
+use Rattle.frame.specs.Packets.{packetOf, asData}
+use Rattle.frame.specs.Reading.{readBy, readOf, dataIn}
 use Rattle.frame.proofs.KindLaws.{data-kind}
-use Rattle.frame.specs.declared.MaybeData.{MaybeData}
-use Rattle.message.specs.Joining.{packetVerdict, turnVerdict, userOf, framesVerdict}
+use Rattle.frame.proofs.Contents.{inside}
+use Rattle.frame.proofs.Frames.{checks-passed}
+use Rattle.message.specs.Joining.{packetVerdict, turnChecks, userOf, framesChecks}
 use Rattle.message.specs.JoiningParts.{someData, isData, allData}
 
 -- ---- frames that passed the checks are DATA
@@ -47,17 +44,18 @@ some-passed : (before : MaybeData) (last : Bool) (x : MaybeData) → packetVerdi
 some-passed before last Nothing e = let z : _≡_ {A = ℕ} 0 1 = cc in absurd (omega arith)
 some-passed before last (SomeData d) e = refl
 
-turn-data : (before : MaybeData) (last : Bool) (r : Read) → turnVerdict before last r ≡ Done → isData r ≡ true
-turn-data before last (PacketRead p place) e = some-passed before last (asData p) e
-turn-data before last (NotRead why) e = let z : _≡_ {A = ℕ} 0 1 = cc in absurd (omega arith)
+pub turn-data : (before : MaybeData) (last : Bool) (r : Read) → turnChecks before last r ≡ passed → isData r ≡ true
+turn-data before last (PacketRead p place) e = some-passed before last (asData p) (all-passed 0 (packetVerdict before last (asData p)) e)
+turn-data before last (NotRead why at) e = let z : _≡_ {A = ℕ} 0 1 = cc in absurd (omega arith)
 
-pub all-data : (form : Form) (before : MaybeData) (fs : List (List ℕ)) → framesVerdict form before fs ≡ Done → allData form fs ≡ true
-unfolding framesVerdict allData
-all-data form before [] e = refl
-all-data form before (f ∷ fs) e =
+pub all-data : (form : Form) (before : MaybeData) (start : ℕ) (fs : List (List ℕ)) → framesChecks form before start fs ≡ passed → allData form fs ≡ true
+unfolding framesChecks allData
+all-data form before start [] e = refl
+all-data form before start (f ∷ fs) e =
     let r = readOf form f in
-    let d = then-done (turnVerdict before (isNone fs) r) (framesVerdict form (dataIn r) fs) e in
-    rw (turn-data before (isNone fs) r (d .0), all-data form (dataIn r) fs (d .1))
+    let turn = turnChecks before (isNone fs) r in
+    let d = both-passed (from start turn) (framesChecks form (dataIn r) (start + length f) fs) e in
+    rw (turn-data before (isNone fs) r (from-passed start turn (d .0)), all-data form (dataIn r) (start + length f) fs (d .1))
 
 -- the first frame, and the others
 pub data-parts : (form : Form) (f : List ℕ) (fs : List (List ℕ)) → allData form (f ∷ fs) ≡ true → (isData (readOf form f) ≡ true) × (allData form fs ≡ true)
@@ -73,8 +71,10 @@ third-last (a ∷ []) = omega arith
 third-last (a ∷ b ∷ []) = omega arith
 third-last (a ∷ b ∷ c ∷ frame) = omega arith
 
-lv-is : (frame : List ℕ) → lvIn (fields dataLayout) (valuesIn dataLayout frame) ≡ getD frame 2 0 % 16
-lv-is frame = ap (λ (x : ℕ). x % 16) (div-one (numberIn 3 frame)) ∙ third-last frame
+-- so a DATA packet's length is this
+long-is : (seg : ℕ) (frame : List ℕ) → packetLength seg dataLayout frame ≡ length frame - seg + getD frame 2 0 % 16
+unfolding packetLength
+long-is seg frame = ap (λ (x : ℕ). length frame - seg + x) (ap (λ (x : ℕ). x % 16) (div-one (numberIn 3 frame)) ∙ third-last frame)
 
 -- ---- the place
 
@@ -85,69 +85,40 @@ pub record DataFrame (form : Form) (frame : List ℕ) (r : Read) : Type 0 where
   pub inside : length frame - segOf form + getD frame 2 0 % 16 ≤ length frame
   pub user : userOf r frame ≡ take (length frame - segOf form + getD frame 2 0 % 16 - 3) (drop 3 frame)
 
--- the check of the length
-length-good : (seg most : ℕ) (frame : List ℕ) (seen : SeenHeader) → contentVerdict seg most frame seen ≡ Done
-    → lengthRight (seen .extent) seg (seen .size) (length frame) ≡ true
-unfolding contentVerdict
-length-good seg most frame seen e =
-    let n = packetLength (seen .extent) seg (length frame) in
-    let zeros = check (allZero (drop n frame)) FormatError (check (leb n most) PacketTooLong Done) in
-    let good = lengthRight (seen .extent) seg (seen .size) (length frame) in
-    check-done good FormatError zeros (check-done (seen .right) FormatError (check good FormatError zeros) e .1) .0
-
--- that of a packet with LV u
-lv-good : (u seg size len : ℕ) → (leb 1 u && (leb u seg && leb size (len - seg + u))) ≡ true → (u ≤ seg) × (size ≤ len - seg + u)
-lv-good u seg size len e =
-    let p = both-true (leb u seg) (leb size (len - seg + u)) (both-true (leb 1 u) (leb u seg && leb size (len - seg + u)) e .1) in
-    (leb-true u seg (p .0), leb-true size (len - seg + u) (p .1))
-
--- a frame taken as DATA passed the checks, and its user data comes after the header
-data-read : (v : Verdict) (n : ℕ) (frame : List ℕ) → isData (readBy (userLengthBy v n) DataKind frame) ≡ true
-    → (v ≡ Done) × (userOf (readBy (userLengthBy v n) DataKind frame) frame ≡ take n (drop 3 frame))
-data-read Done n frame e = (refl, refl)
-data-read (Refused why) n frame e = let z : _≡_ {A = ℕ} 0 1 = cc in absurd (omega arith)
+-- a frame of kind DATA passed the checks, and its user data comes after the header
+data-found : (form : Form) (frame : List ℕ) → readChecks form frame ≡ passed → foundIn frame ≡ Known DataKind
+    → DataFrame form frame (readBy passed (Known DataKind) (segOf form) frame)
+data-found form frame ec ef =
+    let seg = segOf form in
+    let q = checks-passed form frame ec in
+    let none : firstFault seg dataLayout frame ≡ length frame = sym (ap (λ (f : Found). faultOf f seg frame) ef) ∙ q .none in
+    let some = whole-some seg (length frame) (segment-some form) (q .whole) in
+    let small : 3 ≤ seg = omega (arith, segment-seven form) in
+    let n = inside seg dataLayout (sound DataKind) (segment-some form) small frame some (whole-none-over seg (length frame) (q .whole)) none in
+    let long = long-is seg frame in
+    record {
+      segment = some;
+      header = omega (arith, n .0, long);
+      inside = omega (arith, n .1, long);
+      user = ap (λ (x : ℕ). take (x - 3) (drop 3 frame)) long;
+    }
 
 -- a frame that reads as DATA was taken as that kind
 some-kind : (k : Kind) (vs : List ℕ) (x : MaybeData) → asData (packetOf k vs) ≡ x → someData x ≡ true → k ≡ DataKind
 some-kind k vs Nothing e some = let z : _≡_ {A = ℕ} 0 1 = cc in absurd (omega arith)
 some-kind k vs (SomeData d) e some = data-kind k vs d e
 
-data-only : (x : UserLength) (k : Kind) (frame : List ℕ) → isData (readBy x k frame) ≡ true → k ≡ DataKind
-data-only (Bytes n) k frame e = some-kind k (freeValues (fields (layoutOf k)) (valuesIn (layoutOf k) frame)) _ refl e
-data-only (NotLong why) k frame e = let z : _≡_ {A = ℕ} 0 1 = cc in absurd (omega arith)
-
-no-unknown : (v : Verdict) → isData (unknownBy v) ≡ true → ⊥
-no-unknown Done e = let z : _≡_ {A = ℕ} 0 1 = cc in omega arith
-no-unknown (Refused why) e = let z : _≡_ {A = ℕ} 0 1 = cc in omega arith
-
-data-found : (form : Form) (frame : List ℕ) → isData (readAs (Known DataKind) form frame) ≡ true → DataFrame form frame (readAs (Known DataKind) form frame)
-unfolding readAs userLengthOf readVerdict seenIn
-data-found form frame e =
-    let seg = segOf form in
-    let u = lvIn (fields dataLayout) (valuesIn dataLayout frame) in
-    let shape = shapeVerdict form (length frame) in
-    let content = contentVerdict seg (mostOf form) frame (seenIn dataLayout frame) in
-    let r = data-read (andThen shape content) (length frame - seg + u - 3) frame e in
-    let d = then-done shape content (r .0) in
-    let some = shape-some form (length frame) (d .0) in
-    let good = lv-good u seg 3 (length frame) (length-good seg (mostOf form) frame (seenIn dataLayout frame) (d .1)) in
-    record {
-      segment = some;
-      header = omega (arith, good .1, lv-is frame);
-      inside = omega (arith, good .0, some, lv-is frame);
-      user = r .1 ∙ ap (λ (x : ℕ). take (length frame - seg + x - 3) (drop 3 frame)) (lv-is frame);
-    }
-
-by-found : (form : Form) (frame : List ℕ) (f : Found) → isData (readAs f form frame) ≡ true → DataFrame form frame (readAs f form frame)
-unfolding readAs
-by-found form frame Unknown e = absurd (no-unknown (shapeVerdict form (length frame)) e)
-by-found form frame (Known k) e =
-    let is = data-only (userLengthOf form frame (seenIn (layoutOf k) frame)) k frame e in
-    subst (λ (j : Kind). isData (readAs (Known j) form frame) ≡ true → DataFrame form frame (readAs (Known j) form frame)) (sym is) (data-found form frame) e
+by-found : (form : Form) (frame : List ℕ) (c : Checked) (f : Found) → readChecks form frame ≡ c → foundIn frame ≡ f
+    → isData (readBy c f (segOf form) frame) ≡ true → DataFrame form frame (readBy c f (segOf form) frame)
+by-found form frame (refusedAt why at) f ec ef e = let z : _≡_ {A = ℕ} 0 1 = cc in absurd (omega arith)
+by-found form frame passed Unknown ec ef e = let z : _≡_ {A = ℕ} 0 1 = cc in absurd (omega arith)
+by-found form frame passed (Known k) ec ef e =
+    let is = some-kind k (valuesAs (Known k) frame) _ refl e in
+    subst (λ (j : Kind). foundIn frame ≡ Known j → DataFrame form frame (readBy passed (Known j) (segOf form) frame)) (sym is) (data-found form frame ec) ef
 
 pub data-frame : (form : Form) (frame : List ℕ) → isData (readOf form frame) ≡ true → DataFrame form frame (readOf form frame)
 unfolding readOf
-data-frame form frame e = by-found form frame (firstNamed kinds (getD frame 0 0)) e
+data-frame form frame e = by-found form frame (readChecks form frame) (foundIn frame) refl refl e
 
 -- how long it is
 pub user-long : (form : Form) (frame : List ℕ) (r : Read) → DataFrame form frame r → length (userOf r frame) ≡ length frame - segOf form + getD frame 2 0 % 16 - 3

@@ -15,7 +15,7 @@ use Rattle.sequence.specs.Modular.{next}
 use Rattle.sequence.specs.Numbers.{link, packet}
 use Rattle.frame_form.specs.declared.Form.{Form}
 use Rattle.frame_form.specs.Forms.{mostOf, formValid, isLong}
-use Rattle.frame_codec.specs.Writing.{outputBy}
+use Rattle.frame_writer.specs.Writing.{outputBy}
 use Rattle.frame.specs.declared.Packet.{Packet}
 use Rattle.frame.specs.declared.Packet.the-variants.{Data}
 use Rattle.frame.specs.Writing.{fits, frameOf}

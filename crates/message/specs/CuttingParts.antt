@@ -10,8 +10,9 @@ use Rattle.lists.specs.Frames.{bytesIn}
 use Rattle.frame_form.specs.declared.Form.{Form}
 use Rattle.frame_form.specs.Forms.{longSegment, segOf, formValid, isLong}
 use Rattle.frame_form.specs.Segments.{frameLength}
+use Rattle.frame_kinds.specs.Kinds.{layoutOf}
 use Rattle.frame.specs.declared.Packet.{Packet}
-use Rattle.frame.specs.Packets.{kindOf, layoutOf}
+use Rattle.frame.specs.Packets.{kindOf}
 use Rattle.frame.specs.Writing.{fits}
 use Rattle.message.specs.declared.cutting.Start.{Start}
 use Rattle.message.specs.Cutting.{shareOf, dataOf, framesOf}

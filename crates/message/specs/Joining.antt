@@ -1,20 +1,23 @@
 -- Joining DATA frames to a message: the checks and their order, the answer, and the lent output
--- afterwards. Document 01, "Cutting and joining".
+-- afterwards. Document 01, "Cutting and joining"; and document 02, Q-5: "Joining gives the position
+-- within all its data: for 17, a wrong M or a frame not DATA the frame's first byte, for a wrong
+-- sum, 4 and 5 the length of the data".
 -- Assumes nothing.
 use mathlib.Core.Bool.{Bool, true, not, _&&_, _||_}
 use mathlib.Core.List.{List, [], _∷_, _++_}
-use Prim.Native.Nat.{ℕ}
+use Prim.Native.Nat.{ℕ, _+_}
 use lib.Dec.{leb, eqb}
 use lib.ListN.{length}
 use Rattle.refusal.specs.declared.Refusal.the-variants.{OutOfRange, Malformed, FormatError, MessageTooLong, OutputTooShort, RunBroken}
 use Rattle.refusal.specs.declared.Verdict.{Verdict}
 use Rattle.refusal.specs.declared.Verdict.the-variants.{Done, Refused}
-use Rattle.refusal.specs.Numbers.{numberOf, check, andThen}
+use Rattle.refusal.specs.Numbers.{numberOf, check}
+use Rattle.refusal.specs.Positions.{Checked, passed, refusedAt, checkAt, andThenAt, allAt, from, verdictOf}
 use Rattle.lists.specs.Frames.{partsOf, sum, isNone}
 use Rattle.sequence.specs.Modular.{next}
 use Rattle.frame_form.specs.declared.Form.{Form}
 use Rattle.frame_form.specs.Forms.{formValid}
-use Rattle.frame_codec.specs.Writing.{outputBy}
+use Rattle.frame_writer.specs.Writing.{outputBy}
 use Rattle.frame.specs.declared.Data.{Data}
 use Rattle.frame.specs.declared.MaybeData.{MaybeData}
 use Rattle.frame.specs.declared.MaybeData.the-variants.{Nothing, Data as SomeData}
@@ -25,15 +28,21 @@ use Rattle.frame.specs.Reading.{readOf, dataIn, partOf}
 use Rattle.message.specs.declared.joining.Joined.{Joined}
 use Rattle.message.specs.declared.joining.Joined.the-variants.{Bytes, Refused as NotJoined}
 
--- What an answer holds: the refusal number, 0 if a message was joined; the length of the message.
+-- What an answer holds: the refusal number, 0 if a message was joined; the length of the message;
+-- the position of the fault within all the data.
 -- "A refusal returns its number, counts of 0".
 abbrev pub joinedNumber : Joined → ℕ
 joinedNumber (Bytes n) = 0
-joinedNumber (NotJoined why) = numberOf why
+joinedNumber (NotJoined why at) = numberOf why
 
 abbrev pub joinedBytes : Joined → ℕ
 joinedBytes (Bytes n) = n
-joinedBytes (NotJoined why) = 0
+joinedBytes (NotJoined why at) = 0
+
+-- the position of the fault; 0 if a message was joined
+abbrev pub joinedPosition : Joined → ℕ
+joinedPosition (Bytes n) = 0
+joinedPosition (NotJoined why at) = at
 
 -- ---- one frame
 
@@ -59,15 +68,16 @@ packetVerdict before last Nothing = Refused FormatError
 packetVerdict before last (SomeData d) = dataVerdict before last d
 
 -- The checks of a frame, by what reading it answered: "in each the reading order 2, 3, 13" (a
--- refusal of the reader stays), then those of its packet.
-abbrev pub turnVerdict : MaybeData → Bool → Read → Verdict
-turnVerdict before last (PacketRead p place) = packetVerdict before last (asData p)
-turnVerdict before last (NotRead why) = Refused why
+-- refusal of the reader stays, at its position), then those of its packet, at the frame's first
+-- byte. The position is counted from there.
+abbrev pub turnChecks : MaybeData → Bool → Read → Checked
+turnChecks before last (PacketRead p place) = allAt 0 (packetVerdict before last (asData p))
+turnChecks before last (NotRead why at) = refusedAt why at
 
 -- the user data of a frame, by what reading it answered; none if it was refused
 abbrev pub userOf : Read → List ℕ → List ℕ
 userOf (PacketRead p place) frame = partOf frame place
-userOf (NotRead why) frame = []
+userOf (NotRead why at) frame = []
 
 -- the user data that is read from a frame
 abbrev pub userIn : Form → List ℕ → List ℕ
@@ -76,11 +86,13 @@ userIn form frame = userOf (readOf form frame) frame
 -- ---- frame by frame
 
 -- "Then it goes frame by frame": the first refusal counts. Each frame is compared with the DATA
--- packet of the frame before it.
-unfoldable pub framesVerdict : Form → MaybeData → List (List ℕ) → Verdict
-framesVerdict form before [] = Done
-framesVerdict form before (f ∷ fs) =
-    andThen (turnVerdict before (isNone fs) (readOf form f)) (framesVerdict form (dataIn (readOf form f)) fs)
+-- packet of the frame before it. `start` is where the frame begins in all the data, so that its
+-- position is counted from the start of the data.
+unfoldable pub framesChecks : Form → MaybeData → ℕ → List (List ℕ) → Checked
+framesChecks form before start [] = passed
+framesChecks form before start (f ∷ fs) =
+    andThenAt (from start (turnChecks before (isNone fs) (readOf form f)))
+    (framesChecks form (dataIn (readOf form f)) (start + length f) fs)
 
 -- the message: the user data of all frames, one after the other
 unfoldable pub messageIn : Form → List (List ℕ) → List ℕ
@@ -96,26 +108,27 @@ sizeVerdict n room =
     (check (leb n room) OutputTooShort
     Done)
 
--- All checks of joining. `bytes` holds the frames one after the other, with these lengths. "After
--- 1, the sum of lengths is checked (2)"; "no frames" is 2 as well.
-unfoldable pub joinVerdict : Form → List ℕ → List ℕ → ℕ → Verdict
-joinVerdict form lengths bytes room =
-    check (formValid form) OutOfRange
-    (check (eqb (sum lengths) (length bytes)) Malformed
-    (check (not (isNone lengths)) Malformed
-    (andThen (framesVerdict form Nothing (partsOf lengths bytes))
-    (sizeVerdict (length (messageIn form (partsOf lengths bytes))) room))))
+-- All checks of joining, each with the position that it gives. `bytes` holds the frames one after
+-- the other, with these lengths. "After 1, the sum of lengths is checked (2)"; "no frames" is 2 as
+-- well. Both give the length of all the data, as 4 and 5 do.
+unfoldable pub joinChecks : Form → List ℕ → List ℕ → ℕ → Checked
+joinChecks form lengths bytes room =
+    checkAt (formValid form) OutOfRange 0
+    (checkAt (eqb (sum lengths) (length bytes)) Malformed (length bytes)
+    (checkAt (not (isNone lengths)) Malformed (length bytes)
+    (andThenAt (framesChecks form Nothing 0 (partsOf lengths bytes))
+    (allAt (length bytes) (sizeVerdict (length (messageIn form (partsOf lengths bytes))) room)))))
 
--- the answer: the length of the message, or the refusal
-abbrev pub joinBy : Verdict → ℕ → Joined
-joinBy Done n = Bytes n
-joinBy (Refused why) n = NotJoined why
+-- the answer: the length of the message, or the refusal and its position
+abbrev pub joinBy : Checked → ℕ → Joined
+joinBy passed n = Bytes n
+joinBy (refusedAt why at) n = NotJoined why at
 
 -- what `join_frames` answers, for a lent output of `room` bytes
 unfoldable pub joinOf : Form → List ℕ → List ℕ → ℕ → Joined
-joinOf form lengths bytes room = joinBy (joinVerdict form lengths bytes room) (length (messageIn form (partsOf lengths bytes)))
+joinOf form lengths bytes room = joinBy (joinChecks form lengths bytes room) (length (messageIn form (partsOf lengths bytes)))
 
 -- the lent output afterwards: the message at its front; "places past the result keep what they
 -- held, in joining too"; if refused, as before
 unfoldable pub joinOutput : Form → List ℕ → List ℕ → List ℕ → List ℕ
-joinOutput form lengths bytes out = outputBy (joinVerdict form lengths bytes (length out)) (messageIn form (partsOf lengths bytes)) out
+joinOutput form lengths bytes out = outputBy (verdictOf (joinChecks form lengths bytes (length out))) (messageIn form (partsOf lengths bytes)) out

@@ -6,8 +6,7 @@ use mathlib.Core.Bool.{Bool, true, false, _&&_}
 use mathlib.Core.List.{List, [], _∷_}
 use Prim.Native.Nat.{ℕ, _≤_}
 use lib.ListN.{length}
-use Rattle.refusal.specs.declared.Verdict.{Verdict}
-use Rattle.refusal.specs.declared.Verdict.the-variants.{Done, Refused}
+use Rattle.refusal.specs.Positions.{Checked, passed, refusedAt, allAt}
 use Rattle.lists.specs.Frames.{partsOf, sum}
 use Rattle.frame_form.specs.declared.Form.{Form}
 use Rattle.frame.specs.declared.MaybeData.{MaybeData}
@@ -18,22 +17,22 @@ use Rattle.message.specs.declared.joining.Turn.{Turn}
 use Rattle.message.specs.declared.joining.Turn.the-variants.{GoesOn, Refused as NotGoing}
 use Rattle.message.specs.declared.joining.Joined.{Joined}
 use Rattle.message.specs.declared.joining.Joined.the-variants.{Bytes, Refused as NotJoined}
-use Rattle.message.specs.Joining.{turnVerdict, userOf, messageIn, sizeVerdict, joinBy}
+use Rattle.message.specs.Joining.{turnChecks, userOf, messageIn, sizeVerdict, joinBy}
 
--- the verdict on one frame, with what the loop keeps of it: its DATA packet, and the length of its
+-- the checks of one frame, with what the loop keeps of it: its DATA packet, and the length of its
 -- user data
-abbrev pub turnBy : Verdict → MaybeData → ℕ → Turn
-turnBy Done next user = GoesOn next user
-turnBy (Refused why) next user = NotGoing why
+abbrev pub turnBy : Checked → MaybeData → ℕ → Turn
+turnBy passed next user = GoesOn next user
+turnBy (refusedAt why at) next user = NotGoing why at
 
 -- the same, by what reading the frame answered
 abbrev pub turnOf : MaybeData → Bool → Read → List ℕ → Turn
-turnOf before last r frame = turnBy (turnVerdict before last r) (dataIn r) (length (userOf r frame))
+turnOf before last r frame = turnBy (turnChecks before last r) (dataIn r) (length (userOf r frame))
 
--- "then 4, then 5", after the verdict on all frames
-abbrev pub sized : Joined → ℕ → Joined
-sized (Bytes n) room = joinBy (sizeVerdict n room) n
-sized (NotJoined why) room = NotJoined why
+-- "then 4, then 5", after the checks of all frames, `all` bytes
+abbrev pub sized : Joined → ℕ → ℕ → Joined
+sized (Bytes n) room all = joinBy (allAt all (sizeVerdict n room)) n
+sized (NotJoined why at) room all = NotJoined why at
 
 -- whether a frame reads and is DATA
 abbrev pub someData : MaybeData → Bool

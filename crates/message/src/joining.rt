@@ -5,12 +5,13 @@ ghost use Prim.Native.Nat.{_+_, _≤_};
 ghost use lib.Dec.{eqb};
 ghost use lib.ListN.{length};
 ghost use lib.Seq.{paste};
-ghost use Rattle.refusal.specs.Numbers.{verdictNumber, valueBy};
+ghost use Rattle.refusal.specs.Numbers.{valueBy};
+ghost use Rattle.refusal.specs.Positions.{checkedNumber, positionOf, verdictOf};
 ghost use Rattle.lists.specs.Lists.{over};
 ghost use Rattle.lists.specs.Frames.{partsOf, sum};
 ghost use Rattle.frame.specs.Packets.{asData};
 ghost use Rattle.frame.specs.Reading.{readOf};
-ghost use Rattle.message.specs.Joining.{userIn, joinedNumber, joinedBytes, follows, dataVerdict, packetVerdict, framesVerdict, messageIn, joinVerdict, joinBy, joinOf, joinOutput};
+ghost use Rattle.message.specs.Joining.{userIn, joinedNumber, joinedBytes, joinedPosition, follows, dataVerdict, packetVerdict, framesChecks, messageIn, joinChecks, joinBy, joinOf, joinOutput};
 ghost use Rattle.message.specs.JoiningParts.{turnOf, sized, isData, Joinable};
 use frame::Data;
 use frame::MaybeData;
@@ -20,17 +21,18 @@ use frame_form::Form;
 use refusal::Refusal;
 use refusal::Verdict;
 
-// What joining answers: the length of the message, or the refusal.
+// What joining answers: the length of the message; or the refusal, and the position of the fault
+// within all the data.
 pub enum Joined {
     Bytes(usize),
-    Refused(Refusal),
+    Refused(Refusal, usize),
 }
 
 // The verdict on one frame: its DATA packet, with which the next frame is compared, and the length
-// of its user data; or the refusal.
+// of its user data; or the refusal, and the position of the fault within the frame.
 enum Turn {
     GoesOn(MaybeData, usize),
-    Refused(Refusal),
+    Refused(Refusal, usize),
 }
 
 impl Joined {
@@ -40,7 +42,17 @@ impl Joined {
     {
         match self {
             Joined::Bytes(_n) => 0,
-            Joined::Refused(why) => why.number(),
+            Joined::Refused(why, _at) => why.number(),
+        }
+    }
+
+    // The position of the fault within all the data; 0 if a message was joined.
+    pub fn position(self) -> usize
+        ensures { λ r. ⌜ r ≡ joinedPosition self ⌝ }
+    {
+        match self {
+            Joined::Bytes(_n) => 0,
+            Joined::Refused(_why, at) => at,
         }
     }
 }
@@ -113,35 +125,21 @@ fn check_packet(before: MaybeData, last: bool, packet: Packet) -> Verdict
     }
 }
 
-// Reads one frame. A frame whose first bit is 1 is DATA and is read by the faster `read_data`; the
-// answer is that of `read_frame` in every case.
-fn read_one(form: Form, frame: &[u8]) -> Read
-    ensures { λ r. ⌜ r ≡ readOf form (now (frame .entry)) ⌝ }
-{
-    if frame.len() == 0 {
-        return frame::read_frame(form, frame);
-    }
-    if frame[0] < 128 {
-        return frame::read_frame(form, frame);
-    }
-    frame::read_data(form, frame)
-}
-
 // Reads and checks one frame; `last` is whether it is the last of the message.
 fn judge_frame(form: Form, before: MaybeData, last: bool, frame: &[u8]) -> Turn
     ensures { λ r. ⌜ r ≡ turnOf before last (readOf form (now (frame .entry))) (now (frame .entry)) ⌝ }
 {
-    let read = read_one(form, frame);
+    let read = frame::read_frame(form, frame);
     match read {
         Read::Packet(packet, place) => {
             let verdict = check_packet(before, last, packet);
             let user = frame::user_data(frame, place);
             match verdict {
                 Verdict::Done => Turn::GoesOn(packet.data(), user.len()),
-                Verdict::Refused(why) => Turn::Refused(why),
+                Verdict::Refused(why) => Turn::Refused(why, 0),
             }
         }
-        Read::Refused(why) => Turn::Refused(why),
+        Read::Refused(why, at) => Turn::Refused(why, at),
     }
 }
 
@@ -149,7 +147,7 @@ fn judge_frame(form: Form, before: MaybeData, last: bool, frame: &[u8]) -> Turn
 // refusal.
 fn judge_frames(form: Form, lengths: &[usize], frames: &[u8]) -> Joined
     requires { ⌜ sum (now lengths) ≡ length (now frames) ⌝ }
-    ensures { λ r. ⌜ r ≡ joinBy (framesVerdict form MaybeData.Nothing (partsOf (now (lengths .entry)) (now (frames .entry))))
+    ensures { λ r. ⌜ r ≡ joinBy (framesChecks form MaybeData.Nothing 0 (partsOf (now (lengths .entry)) (now (frames .entry))))
         (length (messageIn form (partsOf (now (lengths .entry)) (now (frames .entry))))) ⌝ }
 {
     let mut before = MaybeData::Nothing;
@@ -164,7 +162,7 @@ fn judge_frames(form: Form, lengths: &[usize], frames: &[u8]) -> Joined
                 before = next;
                 total = total + user;
             }
-            Turn::Refused(why) => return Joined::Refused(why),
+            Turn::Refused(why, at) => return Joined::Refused(why, p + at),
         }
         p = e;
         i = i + 1;
@@ -172,10 +170,10 @@ fn judge_frames(form: Form, lengths: &[usize], frames: &[u8]) -> Joined
     Joined::Bytes(total)
 }
 
-// Checks the length of a message that is to be written to `room` bytes, in the order 4, 5; a
-// refusal by an earlier check stays.
-fn check_size(judged: Joined, room: usize) -> Joined
-    ensures { λ r. ⌜ r ≡ sized judged room ⌝ }
+// Checks the length of a message that is to be written to `room` bytes, in the order 4, 5, both at
+// the length `all` of the data; a refusal by an earlier check stays.
+fn check_size(judged: Joined, room: usize, all: usize) -> Joined
+    ensures { λ r. ⌜ r ≡ sized judged room all ⌝ }
 {
     match judged {
         Joined::Bytes(n) => {
@@ -183,32 +181,33 @@ fn check_size(judged: Joined, room: usize) -> Joined
                 if n <= room {
                     Joined::Bytes(n)
                 } else {
-                    Joined::Refused(Refusal::OutputTooShort)
+                    Joined::Refused(Refusal::OutputTooShort, all)
                 }
             } else {
-                Joined::Refused(Refusal::MessageTooLong)
+                Joined::Refused(Refusal::MessageTooLong, all)
             }
         }
-        Joined::Refused(why) => Joined::Refused(why),
+        Joined::Refused(why, at) => Joined::Refused(why, at),
     }
 }
 
-// The length of the message, or the refusal: checked in the order 1, 2 (the sum of the lengths), 2
-// (no frames), each frame in turn, 4, 5.
-fn judge(form: Form, lengths: &[usize], frames: &[u8], room: usize) -> Joined
+// What `join_frames` answers for an output of `room` bytes, without a byte being written: the
+// length of the message, or the refusal and its position; checked in the order 1, 2 (the sum of the
+// lengths), 2 (no frames), each frame in turn, 4, 5.
+pub fn check_frames(form: Form, lengths: &[usize], frames: &[u8], room: usize) -> Joined
     ensures { λ r. ⌜ r ≡ joinOf form (now (lengths .entry)) (now (frames .entry)) room ⌝ }
 {
     if form.is_valid() {
         if sums_to(lengths, frames.len()) {
             if lengths.len() == 0 {
-                return Joined::Refused(Refusal::Malformed);
+                return Joined::Refused(Refusal::Malformed, frames.len());
             }
             let judged = judge_frames(form, lengths, frames);
-            return check_size(judged, room);
+            return check_size(judged, room, frames.len());
         }
-        return Joined::Refused(Refusal::Malformed);
+        return Joined::Refused(Refusal::Malformed, frames.len());
     }
-    Joined::Refused(Refusal::OutOfRange)
+    Joined::Refused(Refusal::OutOfRange, 0)
 }
 
 // ---- copying
@@ -252,15 +251,16 @@ fn copy_users(form: Form, lengths: &[usize], frames: &[u8], out: &mut [u8])
 pub fn join_frames(form: Form, lengths: &[usize], frames: &[u8], out: &mut [u8]) -> Joined
     ensures { λ r. ⌜ r ≡ joinOf form (now (lengths .entry)) (now (frames .entry)) (length (now (out .entry))) ⌝ }
     ensures written { λ _. ⌜ now (out .exit) ≡ joinOutput form (now (lengths .entry)) (now (frames .entry)) (now (out .entry)) ⌝ }
-    ensures number { λ r. ⌜ joinedNumber r ≡ verdictNumber (joinVerdict form (now (lengths .entry)) (now (frames .entry)) (length (now (out .entry)))) ⌝ }
-    ensures value { λ r. ⌜ joinedBytes r ≡ valueBy (joinVerdict form (now (lengths .entry)) (now (frames .entry)) (length (now (out .entry)))) (length (messageIn form (partsOf (now (lengths .entry)) (now (frames .entry))))) ⌝ }
+    ensures number { λ r. ⌜ joinedNumber r ≡ checkedNumber (joinChecks form (now (lengths .entry)) (now (frames .entry)) (length (now (out .entry)))) ⌝ }
+    ensures position { λ r. ⌜ joinedPosition r ≡ positionOf (joinChecks form (now (lengths .entry)) (now (frames .entry)) (length (now (out .entry)))) ⌝ }
+    ensures value { λ r. ⌜ joinedBytes r ≡ valueBy (verdictOf (joinChecks form (now (lengths .entry)) (now (frames .entry)) (length (now (out .entry))))) (length (messageIn form (partsOf (now (lengths .entry)) (now (frames .entry))))) ⌝ }
 {
-    let judged = judge(form, lengths, frames, out.len());
+    let judged = check_frames(form, lengths, frames, out.len());
     match judged {
         Joined::Bytes(n) => {
             copy_users(form, lengths, frames, out);
             Joined::Bytes(n)
         }
-        Joined::Refused(why) => Joined::Refused(why),
+        Joined::Refused(why, at) => Joined::Refused(why, at),
     }
 }

@@ -36,11 +36,11 @@ module _ (form : Form) (s : Start) (m : List ℕ) (room places : ℕ) where
 
 join-number : (j : Joined) → joinedAnswer j % 256 ≡ joinedNumber j
 join-number (Bytes n) = omega arith
-join-number (NotJoined why) = omega (arith, number-range why .1)
+join-number (NotJoined why at) = omega (arith, number-range why .1)
 
 join-bytes : (j : Joined) → joinedAnswer j / 256 ≡ joinedBytes j
 join-bytes (Bytes n) = omega arith
-join-bytes (NotJoined why) = omega (arith, number-range why .1)
+join-bytes (NotJoined why at) = omega (arith, number-range why .1)
 
 pub answer-parts : AnswerParts
 answer-parts = record {

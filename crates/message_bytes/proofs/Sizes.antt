@@ -9,6 +9,7 @@ use native.Mathlib.Omega.{arith}
 use lib.ListN.{length}
 use Rattle.refusal.specs.declared.Verdict.{Verdict}
 use Rattle.refusal.specs.declared.Verdict.the-variants.{Done, Refused}
+use Rattle.refusal.specs.Positions.{Checked, passed as all-passed, refusedAt}
 use Rattle.lists.specs.Frames.{bytesIn, partsOf}
 use Rattle.frame_form.specs.declared.Form.{Form}
 use Rattle.frame_form.specs.Forms.{segOf, formValid}
@@ -22,7 +23,7 @@ use Rattle.message.specs.CuttingParts.{roomFor}
 use Rattle.message.proofs.Passed.{passed}
 use Rattle.message.proofs.Sizes.{share-range, full-least, room-product, message-room, message-count}
 use Rattle.message.specs.declared.joining.Joined.the-variants.{Bytes}
-use Rattle.message.specs.Joining.{messageIn, joinVerdict, joinBy, joinOf}
+use Rattle.message.specs.Joining.{messageIn, joinChecks, joinBy, joinOf}
 use Rattle.message.proofs.Answers.{join-done}
 
 -- ---- cutting
@@ -57,12 +58,12 @@ cut-few form s m room places count bytes e =
 
 -- ---- joining
 
-by-bytes : (v : Verdict) (n m : ℕ) → joinBy v n ≡ Bytes m → (v ≡ Done) × (n ≡ m)
-by-bytes Done n m e = (refl, cc)
-by-bytes (Refused why) n m e = let z : _≡_ {A = ℕ} 0 1 = cc in absurd (omega arith)
+by-bytes : (c : Checked) (n m : ℕ) → joinBy c n ≡ Bytes m → (c ≡ all-passed) × (n ≡ m)
+by-bytes all-passed n m e = (refl, cc)
+by-bytes (refusedAt why at) n m e = let z : _≡_ {A = ℕ} 0 1 = cc in absurd (omega arith)
 
 pub join-few : (form : Form) (lengths bytes : List ℕ) (room n : ℕ) → joinOf form lengths bytes room ≡ Bytes n → n ≤ 4096
 unfolding joinOf
 join-few form lengths bytes room n e =
-    let d = by-bytes (joinVerdict form lengths bytes room) (length (messageIn form (partsOf lengths bytes))) n e in
+    let d = by-bytes (joinChecks form lengths bytes room) (length (messageIn form (partsOf lengths bytes))) n e in
     omega (arith, d .1, join-done form lengths bytes room (d .0) .small)

@@ -5,7 +5,7 @@ ghost use mathlib.Core.Path.{_≡_};
 ghost use lib.ListN.{length};
 ghost use Rattle.frame_form.specs.Forms.{formAt};
 ghost use Rattle.message.specs.Cutting.{cutOf, cutOutput, cutLengths};
-ghost use Rattle.message.specs.Joining.{joinOf, joinOutput};
+ghost use Rattle.message.specs.Joining.{joinedPosition, joinOf, joinOutput};
 ghost use Rattle.message_bytes.specs.Answers.{startAt, cutAnswer, joinedAnswer};
 use frame_form::Form;
 use message::cutting::Cut;
@@ -55,6 +55,15 @@ pub fn join(form: u8, lengths: &[usize], frames: &[u8], out: &mut [u8]) -> u64
     let joined = message::joining::join_frames(Form::from_number(form), lengths, frames, out);
     match joined {
         Joined::Bytes(n) => 256 * n as u64,
-        Joined::Refused(why) => why.number() as u64,
+        Joined::Refused(why, _at) => why.number() as u64,
     }
+}
+
+// Where frames are bad: the position within `frames` of what `join` refuses them for, with an
+// output of `room` bytes; 0 if they are joined. Nothing is written.
+pub fn fault(form: u8, lengths: &[usize], frames: &[u8], room: usize) -> usize
+    ensures { λ r. ⌜ r ≡ joinedPosition (joinOf (formAt form) (now (lengths .entry)) (now (frames .entry)) room) ⌝ }
+{
+    let judged = message::joining::check_frames(Form::from_number(form), lengths, frames, room);
+    judged.position()
 }

@@ -11,7 +11,7 @@ use lib.ListN.{length, length-append}
 use lib.Seq.{take-at, drop-at}
 use borrow.Author.Tests.{eqb-true}
 use Rattle.refusal.proofs.Checks.{both-true}
-use Rattle.refusal.specs.declared.Verdict.the-variants.{Done}
+use Rattle.refusal.specs.Positions.{passed}
 use Rattle.frame_fields.specs.Rows.{AreBytes}
 use Rattle.frame_form.specs.declared.Form.{Form}
 use Rattle.frame_form.specs.Forms.{formValid}
@@ -29,7 +29,7 @@ use Rattle.message.specs.declared.cutting.Start.{Start}
 use Rattle.frame.specs.declared.MaybeData.{MaybeData}
 use Rattle.frame.specs.declared.MaybeData.the-variants.{Data as SomeData}
 use Rattle.message.specs.Cutting.{shareOf, fullFrames, dataOf, nextStart, framesFrom}
-use Rattle.message.specs.Joining.{follows, userOf, framesVerdict, messageIn, userIn}
+use Rattle.message.specs.Joining.{follows, userOf, framesChecks, messageIn, userIn}
 use Rattle.message_claims.specs.Claims.{hasPr, AsCut, startOf}
 use Rattle.message.proofs.Sizes.{share-range, one-frame}
 use Rattle.message_claims.proofs.Shares.{shares-more}
@@ -75,31 +75,31 @@ unfolding AsCut
 as-cut-pr form pr alone f [] h = h .0
 as-cut-pr form pr alone f (g ∷ gs) h = h .0
 
-pub frames-again : (form : Form) → formValid form ≡ true → (alone : Bool) (f : List ℕ) (fs : List (List ℕ)) (b : MaybeData) (d : Data) (place : UserData) → AllBytes (f ∷ fs)
-    → readOf form f ≡ PacketRead (DataPacket d) place → framesVerdict form b (f ∷ fs) ≡ Done → AsCut form (d .pr .0) alone (f ∷ fs)
+pub frames-again : (form : Form) → formValid form ≡ true → (alone : Bool) (f : List ℕ) (fs : List (List ℕ)) (b : MaybeData) (start : ℕ) (d : Data) (place : UserData) → AllBytes (f ∷ fs)
+    → readOf form f ≡ PacketRead (DataPacket d) place → framesChecks form b start (f ∷ fs) ≡ passed → AsCut form (d .pr .0) alone (f ∷ fs)
     → (framesFrom form (length fs) (startOf d) (messageIn form (f ∷ fs)) ≡ f ∷ fs)
     × (fullFrames (shareOf form) (length (messageIn form (f ∷ fs))) ≡ length fs)
     × (alone ≡ false → 1 ≤ length (messageIn form (f ∷ fs)))
 unfolding AsCut AllBytes framesFrom messageIn
-frames-again form good alone f [] b d place bytes reads run as-cut =
-    let t = turn-says form b true f d place (first-turn form b f [] run .0) reads in
+frames-again form good alone f [] b start d place bytes reads run as-cut =
+    let t = turn-says form b true f d place (first-turn form b start f [] run .0) reads in
     let all : userIn form f ++ [] ≡ userIn form f = append-nil (userIn form f) in
     let some : 1 ≤ shareOf form = omega (arith, share-range form good .0) in (
       ap (λ (u : List ℕ). frameOf form (dataOf (startOf d) false) u ∷ []) all ∙ ap (λ (x : List ℕ). x ∷ []) (frame-of form f d place false (bytes .0) reads (t .0)),
       ap (λ (u : List ℕ). fullFrames (shareOf form) (length u)) all ∙ one-frame (shareOf form) (length (userIn form f)) some (user-share form good f d place reads),
       λ h. subst (λ (u : List ℕ). 1 ≤ length u) (sym all) (as-cut .1 h),
     )
-frames-again form good alone f (g ∷ gs) b d place bytes reads run as-cut =
+frames-again form good alone f (g ∷ gs) b start d place bytes reads run as-cut =
     let share = shareOf form in
     let user = userIn form f in
     let rest = messageIn form (g ∷ gs) in
-    let t = turn-says form b false f d place (first-turn form b f (g ∷ gs) run .0) reads in
-    let run2 : framesVerdict form (SomeData d) (g ∷ gs) ≡ Done =
-    sym (ap (λ (r : Read). framesVerdict form (dataIn r) (g ∷ gs)) reads) ∙ first-turn form b f (g ∷ gs) run .1 in
-    let t2 = first-turn form (SomeData d) g gs run2 .0 in
+    let t = turn-says form b false f d place (first-turn form b start f (g ∷ gs) run .0) reads in
+    let run2 : framesChecks form (SomeData d) (start + length f) (g ∷ gs) ≡ passed =
+    sym (ap (λ (r : Read). framesChecks form (dataIn r) (start + length f) (g ∷ gs)) reads) ∙ first-turn form b start f (g ∷ gs) run .1 in
+    let t2 = first-turn form (SomeData d) (start + length f) g gs run2 .0 in
     let pr2 : t2 .packet .pr .0 ≡ d .pr .0 = has-pr (d .pr .0) form g (t2 .packet) (t2 .place) (t2 .reads) (as-cut-pr form (d .pr .0) false g gs (as-cut .2)) in
     let start2 = next-start d (t2 .packet) (t2 .goes-on) pr2 in
-    let ih = frames-again form good false g gs (SomeData d) (t2 .packet) (t2 .place) (bytes .1) (t2 .reads) run2 (subst (λ (x : ℕ). AsCut form x false (g ∷ gs)) (sym pr2) (as-cut .2)) in
+    let ih = frames-again form good false g gs (SomeData d) (start + length f) (t2 .packet) (t2 .place) (bytes .1) (t2 .reads) run2 (subst (λ (x : ℕ). AsCut form x false (g ∷ gs)) (sym pr2) (as-cut .2)) in
     let full : length user ≡ share = as-cut .1 in
     let len : length (user ++ rest) ≡ share + length rest = length-append user rest ∙ ap (λ (x : ℕ). x + length rest) full in
     let some : 1 ≤ share = omega (arith, share-range form good .0) in (

@@ -10,11 +10,12 @@ use native.Mathlib.Omega.{arith}
 use lib.ListN.{length, take, drop}
 use lib.Seq.{take-at}
 use Rattle.refusal.specs.declared.Verdict.{Verdict}
+use Rattle.refusal.specs.Positions.{Checked, verdictOf}
 use Rattle.lists.specs.Lists.{over}
 use Rattle.frame_fields.specs.Rows.{AreBytes}
 use Rattle.frame_form.specs.declared.Form.{Form}
 use Rattle.frame_form.specs.Forms.{formValid, isLong}
-use Rattle.frame_codec.specs.Writing.{outputBy}
+use Rattle.frame_writer.specs.Writing.{outputBy}
 use Rattle.frame.specs.declared.Data.{Data}
 use Rattle.frame.specs.declared.Packet.the-variants.{Data as DataPacket}
 use Rattle.frame.specs.declared.UserData.{UserData}
@@ -28,7 +29,7 @@ use Rattle.message.specs.declared.cutting.Cut.the-variants.{Frames}
 use Rattle.message.specs.declared.joining.Joined.the-variants.{Bytes}
 use Rattle.lists.specs.Frames.{bytesIn, lengthsOf, partsOf, isNone}
 use Rattle.message.specs.Cutting.{shareOf, fullFrames, dataOf, framesFrom, framesOf, cutVerdict, cutBy, cutOf, cutOutput, cutLengths}
-use Rattle.message.specs.Joining.{framesVerdict, messageIn, joinVerdict, joinBy, joinOf, joinOutput}
+use Rattle.message.specs.Joining.{framesChecks, messageIn, joinChecks, joinBy, joinOf, joinOutput}
 use Rattle.lists.proofs.Frames.{parts-back, sum-lengths, count-lengths, count-parts, bytes-back, lengths-back}
 use Rattle.message.proofs.Sizes.{share-range, frames-count}
 use Rattle.message.proofs.Passed.{by-frames, passed, accepts}
@@ -63,7 +64,7 @@ frames-join form s message room good fit small enough =
         good = good;
         sums = sum-lengths fs;
         some = some-lengths fs k (frames-count form k s message);
-        run = ap (framesVerdict form Nothing) (parts-back fs) ∙ frames-run form good k s message Nothing fit first hold;
+        run = ap (framesChecks form Nothing 0) (parts-back fs) ∙ frames-run form good k s message Nothing 0 fit first hold;
         small = subst (λ (m : List ℕ). length m ≤ 4096) (sym msg) small;
         fits-room = subst (λ (m : List ℕ). length m ≤ room) (sym msg) enough;
       },
@@ -78,8 +79,8 @@ frames-are-joined form s message room good fit small enough =
     let j = frames-join form s message (length room) good fit small enough in
     let v = join-accepts form (lengthsOf fs) (bytesIn fs) (length room) (j .0) in
     record {
-      answer = ap (λ (x : Verdict). joinBy x (length (messageIn form (partsOf (lengthsOf fs) (bytesIn fs))))) v ∙ ap (λ (m : List ℕ). Bytes (length m)) (j .1);
-      output = ap (λ (x : Verdict). outputBy x (messageIn form (partsOf (lengthsOf fs) (bytesIn fs))) room) v ∙ ap (λ (m : List ℕ). over m room) (j .1);
+      answer = ap (λ (x : Checked). joinBy x (length (messageIn form (partsOf (lengthsOf fs) (bytesIn fs))))) v ∙ ap (λ (m : List ℕ). Bytes (length m)) (j .1);
+      output = ap (λ (x : Checked). outputBy (verdictOf x) (messageIn form (partsOf (lengthsOf fs) (bytesIn fs))) room) v ∙ ap (λ (m : List ℕ). over m room) (j .1);
     }
 
 all-bytes : (ls bytes : List ℕ) → AreBytes bytes → AllBytes (partsOf ls bytes)
@@ -91,7 +92,7 @@ all-bytes (l ∷ ls) bytes b = let p = are-bytes l bytes b in (p .0, all-bytes l
 joins : (form : Form) (lengths bytes : List ℕ) (room n : ℕ) → joinOf form lengths bytes room ≡ Bytes n → JoinDone form lengths bytes room
 unfolding joinOf
 joins form lengths bytes room n e =
-    join-done form lengths bytes room (by-bytes (joinVerdict form lengths bytes room) (length (messageIn form (partsOf lengths bytes))) n e)
+    join-done form lengths bytes room (by-bytes (joinChecks form lengths bytes room) (length (messageIn form (partsOf lengths bytes))) n e)
 
 joined-are-frames : (form : Form) (l : ℕ) (ls bytes : List ℕ) (room n : ℕ) (d : Data) (place : UserData)
     → AreBytes bytes → joinOf form (l ∷ ls) bytes room ≡ Bytes n → readOf form (take l bytes) ≡ PacketRead (DataPacket d) place
@@ -101,7 +102,7 @@ joined-are-frames form l ls bytes room n d place are e reads as-cut =
     let lengths = l ∷ ls in
     let message = messageIn form (partsOf lengths bytes) in
     let j = joins form lengths bytes room n e in
-    let again = frames-again form (j .good) true (take l bytes) (partsOf ls (drop l bytes)) Nothing d place (all-bytes lengths bytes are) reads (j .run) as-cut in
+    let again = frames-again form (j .good) true (take l bytes) (partsOf ls (drop l bytes)) Nothing 0 d place (all-bytes lengths bytes are) reads (j .run) as-cut in
     sym (ap (λ (k : ℕ). framesFrom form k (startOf d) message) (again .1) ∙ again .0)
 
 -- ---- cut, then joined
@@ -170,7 +171,7 @@ fewest form lengths bytes room n s e =
     let j = joins form lengths bytes room n e in
     let some : 1 ≤ shareOf form = omega (arith, share-range form (j .good) .0) in
     let k = fullFrames (shareOf form) (length message) in
-    let at-most : length message ≤ length lengths * shareOf form = subst (λ (x : ℕ). length message ≤ x * shareOf form) (count-parts lengths bytes) (message-shares form (j .good) Nothing fs (j .run)) in
+    let at-most : length message ≤ length lengths * shareOf form = subst (λ (x : ℕ). length message ≤ x * shareOf form) (count-parts lengths bytes) (message-shares form (j .good) Nothing 0 fs (j .run)) in
     let more : 1 ≤ length lengths = go lengths (j .some) in
     omega (arith, frames-count form k s message, shares-fewest (shareOf form) (length message) (length lengths) some more at-most)
   where

@@ -11,7 +11,7 @@ use lib.ListN.{length, take, drop, length-drop, length-take, take-append-drop}
 use borrow.Author.Tests.{eq-eqb}
 use Rattle.refusal.specs.declared.Verdict.{Verdict}
 use Rattle.refusal.specs.declared.Verdict.the-variants.{Done}
-use Rattle.refusal.specs.Numbers.{andThen}
+use Rattle.refusal.specs.Positions.{passed, andThenAt, allAt, from}
 use Rattle.frame_form.specs.declared.Form.{Form}
 use Rattle.frame_form.specs.Forms.{formValid}
 use Rattle.frame.specs.declared.Data.{Data}
@@ -27,7 +27,7 @@ use Rattle.frame.specs.declared.MaybeData.{MaybeData}
 use Rattle.frame.specs.declared.MaybeData.the-variants.{Nothing, Data as SomeData}
 use Rattle.lists.specs.Frames.{isNone}
 use Rattle.message.specs.Cutting.{shareOf, dataOf, nextStart, framesFrom}
-use Rattle.message.specs.Joining.{follows, dataVerdict, turnVerdict, userOf, framesVerdict, messageIn}
+use Rattle.message.specs.Joining.{follows, dataVerdict, turnChecks, userOf, framesChecks, messageIn}
 use Rattle.message_claims.proofs.Starts.{start-fits, next-fits}
 use Rattle.message.proofs.Sizes.{share-range}
 
@@ -73,20 +73,20 @@ share-left share k message h = omega (arith, h, length-drop share message, suc-m
 pub one-share : (share : ℕ) (message : List ℕ) → length message ≤ 1 * share → length message ≤ share
 one-share share message h = omega (arith, h)
 
-pub frames-run : (form : Form) → formValid form ≡ true → (k : ℕ) (s : Start) (message : List ℕ) (b : MaybeData) → fits (dataOf s false) 0 ≡ true → Goes b s
-    → length message ≤ suc k * shareOf form → framesVerdict form b (framesFrom form k s message) ≡ Done
-unfolding framesFrom framesVerdict
-frames-run form good zero s message b fit goes small =
-    ap (λ (r : Read). andThen (turnVerdict b true r) Done) (share-reads form good s fit false message (one-share (shareOf form) message small))
-    ∙ ap (λ (v : Verdict). andThen v Done) (turn-done b s false goes)
-frames-run form good (suc k) s message b fit goes small =
+pub frames-run : (form : Form) → formValid form ≡ true → (k : ℕ) (s : Start) (message : List ℕ) (b : MaybeData) (start : ℕ) → fits (dataOf s false) 0 ≡ true → Goes b s
+    → length message ≤ suc k * shareOf form → framesChecks form b start (framesFrom form k s message) ≡ passed
+unfolding framesFrom framesChecks
+frames-run form good zero s message b start fit goes small =
+    ap (λ (r : Read). andThenAt (from start (turnChecks b true r)) passed) (share-reads form good s fit false message (one-share (shareOf form) message small))
+    ∙ ap (λ (v : Verdict). andThenAt (from start (allAt 0 v)) passed) (turn-done b s false goes)
+frames-run form good (suc k) s message b start fit goes small =
     let share = shareOf form in
     let f = frameOf form (dataOf s true) (take share message) in
     let rest = framesFrom form k (nextStart s) (drop share message) in
-    ap₂ (λ (n : Bool) (r : Read). andThen (turnVerdict b n r) (framesVerdict form (dataIn r) rest)) (more-frames form k (nextStart s) (drop share message))
+    ap₂ (λ (n : Bool) (r : Read). andThenAt (from start (turnChecks b n r)) (framesChecks form (dataIn r) (start + length f) rest)) (more-frames form k (nextStart s) (drop share message))
     (share-reads form good s fit true (take share message) (share-taken share message))
-    ∙ ap (λ (v : Verdict). andThen v (framesVerdict form (SomeData (dataRecord s true)) rest)) (turn-done b s true goes)
-    ∙ frames-run form good k (nextStart s) (drop share message) (SomeData (dataRecord s true)) (next-fits s fit) after (share-left share k message small)
+    ∙ ap (λ (v : Verdict). andThenAt (from start (allAt 0 v)) (framesChecks form (SomeData (dataRecord s true)) (start + length f) rest)) (turn-done b s true goes)
+    ∙ frames-run form good k (nextStart s) (drop share message) (SomeData (dataRecord s true)) (start + length f) (next-fits s fit) after (share-left share k message small)
 
 pub frames-message : (form : Form) → formValid form ≡ true → (k : ℕ) (s : Start) (message : List ℕ) → fits (dataOf s false) 0 ≡ true
     → length message ≤ suc k * shareOf form → messageIn form (framesFrom form k s message) ≡ message

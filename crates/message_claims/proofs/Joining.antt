@@ -4,7 +4,7 @@
 use mathlib.Core.Path.{_≡_, refl, ap, _∙_}
 use mathlib.Core.Bool.{Bool, true, false, not, _&&_, _||_}
 use mathlib.Core.List.{List, [], _∷_}
-use Prim.Native.Nat.{ℕ, _-_, _*_, _≤_}
+use Prim.Native.Nat.{ℕ, _+_, _-_, _*_, _≤_}
 use native.Mathlib.Nat.{suc-mul, zero-mul}
 use native.Mathlib.Omega.{arith}
 use lib.ListN.{length, drop, length-append, length-drop}
@@ -13,7 +13,8 @@ use borrow.Author.Tests.{not-true}
 use Rattle.refusal.specs.declared.Refusal.the-variants.{FormatError, RunBroken, Malformed}
 use Rattle.refusal.specs.declared.Verdict.the-variants.{Done}
 use Rattle.refusal.specs.Numbers.{check}
-use Rattle.refusal.proofs.Checks.{check-done, then-done}
+use Rattle.refusal.specs.Positions.{passed, from}
+use Rattle.refusal.proofs.Checks.{check-done, both-passed, from-passed, all-passed}
 use Rattle.frame_form.specs.declared.Form.{Form}
 use Rattle.frame_form.specs.Forms.{formValid}
 use Rattle.frame.specs.declared.Data.{Data}
@@ -30,7 +31,7 @@ use Rattle.frame.specs.Packets.{asData}
 use Rattle.frame.proofs.KindLaws.{data-is}
 use Rattle.lists.specs.Frames.{isNone}
 use Rattle.message.specs.Cutting.{shareOf}
-use Rattle.message.specs.Joining.{follows, dataVerdict, packetVerdict, turnVerdict, userOf, framesVerdict, messageIn}
+use Rattle.message.specs.Joining.{follows, dataVerdict, packetVerdict, turnChecks, userOf, framesChecks, messageIn}
 use Rattle.message.proofs.Sizes.{share-range}
 
 -- An accepted frame: it holds a DATA packet that follows the packet b before it, with M = 0 exactly
@@ -61,17 +62,18 @@ packet-turn form b last frame p place (SomeData d) ex er e =
     let t = data-turn b last d e in
     record { packet = d; place = place; reads = er ∙ ap (λ (q : Packet). PacketRead q place) (data-is p d ex); goes-on = t .0; m-says = t .1 }
 
-turn-of : (form : Form) (b : MaybeData) (last : Bool) (frame : List ℕ) (r : Read) → readOf form frame ≡ r → turnVerdict b last r ≡ Done → IsTurn form b last frame
-turn-of form b last frame (PacketRead p place) er e = packet-turn form b last frame p place (asData p) refl er e
-turn-of form b last frame (NotRead why) er e = let z : _≡_ {A = ℕ} 0 1 = cc in absurd (omega arith)
+turn-of : (form : Form) (b : MaybeData) (last : Bool) (frame : List ℕ) (r : Read) → readOf form frame ≡ r → turnChecks b last r ≡ passed → IsTurn form b last frame
+turn-of form b last frame (PacketRead p place) er e = packet-turn form b last frame p place (asData p) refl er (all-passed 0 (packetVerdict b last (asData p)) e)
+turn-of form b last frame (NotRead why at) er e = let z : _≡_ {A = ℕ} 0 1 = cc in absurd (omega arith)
 
 -- the first frame of several, and the rest
-pub first-turn : (form : Form) (b : MaybeData) (f : List ℕ) (fs : List (List ℕ)) → framesVerdict form b (f ∷ fs) ≡ Done
-    → IsTurn form b (isNone fs) f × (framesVerdict form (dataIn (readOf form f)) fs ≡ Done)
-unfolding framesVerdict
-first-turn form b f fs e =
-    let p = then-done (turnVerdict b (isNone fs) (readOf form f)) (framesVerdict form (dataIn (readOf form f)) fs) e in
-    (turn-of form b (isNone fs) f (readOf form f) refl (p .0), p .1)
+pub first-turn : (form : Form) (b : MaybeData) (start : ℕ) (f : List ℕ) (fs : List (List ℕ)) → framesChecks form b start (f ∷ fs) ≡ passed
+    → IsTurn form b (isNone fs) f × (framesChecks form (dataIn (readOf form f)) (start + length f) fs ≡ passed)
+unfolding framesChecks
+first-turn form b start f fs e =
+    let turn = turnChecks b (isNone fs) (readOf form f) in
+    let p = both-passed (from start turn) (framesChecks form (dataIn (readOf form f)) (start + length f) fs) e in
+    (turn-of form b (isNone fs) f (readOf form f) refl (from-passed start turn (p .0)), p .1)
 
 -- the user data of a frame: at most a share
 module _ (form : Form) (good : formValid form ≡ true) (frame : List ℕ) (d : Data) (place : UserData) (reads : readOf form frame ≡ PacketRead (DataPacket d) place) where
@@ -88,11 +90,11 @@ module _ (form : Form) (good : formValid form ≡ true) (frame : List ℕ) (d : 
       let f = reads-frame form frame (DataPacket d) place reads in
       omega (arith, user-length, f .most, share-range form good .2)
 
-pub message-shares : (form : Form) → formValid form ≡ true → (b : MaybeData) (fs : List (List ℕ)) → framesVerdict form b fs ≡ Done → length (messageIn form fs) ≤ length fs * shareOf form
+pub message-shares : (form : Form) → formValid form ≡ true → (b : MaybeData) (start : ℕ) (fs : List (List ℕ)) → framesChecks form b start fs ≡ passed → length (messageIn form fs) ≤ length fs * shareOf form
 unfolding messageIn
-message-shares form good b [] e = omega (arith, zero-mul (shareOf form))
-message-shares form good b (f ∷ fs) e =
-    let t = first-turn form b f fs e in
+message-shares form good b start [] e = omega (arith, zero-mul (shareOf form))
+message-shares form good b start (f ∷ fs) e =
+    let t = first-turn form b start f fs e in
     let one = user-share form good f (t .0 .packet) (t .0 .place) (t .0 .reads) in
-    let rest = message-shares form good (dataIn (readOf form f)) fs (t .1) in
+    let rest = message-shares form good (dataIn (readOf form f)) (start + length f) fs (t .1) in
     omega (arith, one, rest, length-append (userOf (readOf form f) f) (messageIn form fs), suc-mul (length fs) (shareOf form))

@@ -9,3 +9,4 @@ pub mod Claims
 pub mod Refusing
 pub mod Short
 pub mod Witness
+pub mod Faults

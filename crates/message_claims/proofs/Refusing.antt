@@ -8,10 +8,11 @@ use Prim.Native.Nat.{ℕ}
 use lib.ListN.{length}
 use Rattle.refusal.specs.declared.Verdict.{Verdict}
 use Rattle.refusal.specs.declared.Verdict.the-variants.{Done, Refused}
+use Rattle.refusal.specs.Positions.{Checked, passed, refusedAt, verdictOf}
 use Rattle.lists.specs.Frames.{bytesIn, lengthsOf, partsOf}
-use Rattle.frame_codec.specs.Writing.{outputBy}
+use Rattle.frame_writer.specs.Writing.{outputBy}
 use Rattle.message.specs.Cutting.{cutNumber, cutCount, cutBytes, framesOf, cutVerdict, cutBy, cutOf, cutOutput, cutLengths}
-use Rattle.message.specs.Joining.{joinedNumber, joinedBytes, messageIn, joinVerdict, joinBy, joinOf, joinOutput}
+use Rattle.message.specs.Joining.{joinedNumber, joinedBytes, messageIn, joinChecks, joinBy, joinOf, joinOutput}
 use Rattle.message_claims.specs.Refusing.{RefusalsChangeNothing}
 
 cut-by : (v : Verdict) (fs : List (List ℕ)) (out lengths : List ℕ) → cutNumber (cutBy v fs) ≢ 0
@@ -19,14 +20,14 @@ cut-by : (v : Verdict) (fs : List (List ℕ)) (out lengths : List ℕ) → cutNu
 cut-by Done fs out lengths h = absurd (h refl)
 cut-by (Refused why) fs out lengths h = (refl, refl, refl, refl)
 
-join-by : (v : Verdict) (message out : List ℕ) → joinedNumber (joinBy v (length message)) ≢ 0
-    → (joinedBytes (joinBy v (length message)) ≡ 0) × (outputBy v message out ≡ out)
-join-by Done message out h = absurd (h refl)
-join-by (Refused why) message out h = (refl, refl)
+join-by : (c : Checked) (message out : List ℕ) → joinedNumber (joinBy c (length message)) ≢ 0
+    → (joinedBytes (joinBy c (length message)) ≡ 0) × (outputBy (verdictOf c) message out ≡ out)
+join-by passed message out h = absurd (h refl)
+join-by (refusedAt why at) message out h = (refl, refl)
 
 pub refusals-change-nothing : RefusalsChangeNothing
 unfolding cutOf cutOutput cutLengths joinOf joinOutput
 refusals-change-nothing = record {
   cut = λ form s message out lengths. cut-by (cutVerdict form s message (length out) (length lengths)) (framesOf form s message) out lengths;
-  join = λ form lengths bytes out. join-by (joinVerdict form lengths bytes (length out)) (messageIn form (partsOf lengths bytes)) out;
+  join = λ form lengths bytes out. join-by (joinChecks form lengths bytes (length out)) (messageIn form (partsOf lengths bytes)) out;
 }

@@ -4,14 +4,16 @@ use mathlib.Core.Path.{_≡_, refl, sym, _∙_, subst}
 use mathlib.Core.Bool.{Bool, true, false, cond, not, _&&_, _||_}
 use mathlib.Core.List.{List, [], _∷_}
 use mathlib.Core.Logic.{_≢_}
-use Prim.Native.Nat.{ℕ}
+use Prim.Native.Nat.{ℕ, _+_}
 use native.Mathlib.Omega.{arith}
 use lib.Dec.{leb, eqb}
 use lib.ListN.{length}
 use Rattle.refusal.specs.declared.Refusal.the-variants.{OutOfRange, Malformed, FormatError, MessageTooLong, OutputTooShort, RunBroken, ShortForm}
+use Rattle.refusal.specs.declared.Verdict.{Verdict}
 use Rattle.refusal.specs.declared.Verdict.the-variants.{Done, Refused}
-use Rattle.refusal.specs.Numbers.{verdictNumber, check, andThen}
-use Rattle.refusal.proofs.Checks.{check-never, then-never}
+use Rattle.refusal.specs.Numbers.{verdictNumber, check}
+use Rattle.refusal.specs.Positions.{Checked, passed, refusedAt, checkAt, andThenAt, allAt, from, checkedNumber}
+use Rattle.refusal.proofs.Checks.{check-never, at-never, then-at-never}
 use Rattle.lists.specs.Frames.{bytesIn, partsOf, sum, isNone}
 use Rattle.frame_form.specs.declared.Form.{Form}
 use Rattle.frame_form.specs.declared.Form.the-variants.{ShortUplink}
@@ -28,7 +30,7 @@ use Rattle.frame.proofs.Numbers.{read-not-short}
 use Rattle.message.specs.declared.cutting.Start.{Start}
 use Rattle.message.specs.declared.cutting.Cut.the-variants.{Refused as NotCut}
 use Rattle.message.specs.Cutting.{cutNumber, dataOf, framesOf, cutVerdict, cutBy, cutOf}
-use Rattle.message.specs.Joining.{joinedNumber, follows, dataVerdict, packetVerdict, turnVerdict, framesVerdict, messageIn, sizeVerdict, joinVerdict, joinOf}
+use Rattle.message.specs.Joining.{joinedNumber, follows, dataVerdict, packetVerdict, turnChecks, framesChecks, messageIn, sizeVerdict, joinChecks, joinOf}
 use Rattle.message.proofs.Numbers.{cut-by, join-by}
 use Rattle.message_claims.specs.Short.{ShortNotCut}
 
@@ -73,16 +75,26 @@ packet-never : (before : MaybeData) (last : Bool) (found : MaybeData) → verdic
 packet-never before last Nothing = λ e. omega arith
 packet-never before last (SomeData d) = data-never before last d
 
-turn-never : (before : MaybeData) (last : Bool) (r : Read) → readNumber r ≢ 23 → verdictNumber (turnVerdict before last r) ≢ 23
-turn-never before last (PacketRead p place) h = packet-never before last (asData p)
-turn-never before last (NotRead why) h = h
+-- positions do not matter
+all-never : (at : ℕ) (v : Verdict) → verdictNumber v ≢ 23 → checkedNumber (allAt at v) ≢ 23
+all-never at Done h = h
+all-never at (Refused why) h = h
 
-frames-never : (form : Form) (before : MaybeData) (fs : List (List ℕ)) → verdictNumber (framesVerdict form before fs) ≢ 23
-unfolding framesVerdict
-frames-never form before [] = λ e. omega arith
-frames-never form before (f ∷ fs) =
-    then-never 23 (turnVerdict before (isNone fs) (readOf form f)) (framesVerdict form (dataIn (readOf form f)) fs)
-    (turn-never before (isNone fs) (readOf form f) (read-not-short form f)) (frames-never form (dataIn (readOf form f)) fs)
+from-never : (start : ℕ) (c : Checked) → checkedNumber c ≢ 23 → checkedNumber (from start c) ≢ 23
+from-never start passed h = h
+from-never start (refusedAt why at) h = h
+
+turn-never : (before : MaybeData) (last : Bool) (r : Read) → readNumber r ≢ 23 → checkedNumber (turnChecks before last r) ≢ 23
+turn-never before last (PacketRead p place) h = all-never 0 (packetVerdict before last (asData p)) (packet-never before last (asData p))
+turn-never before last (NotRead why at) h = h
+
+frames-never : (form : Form) (before : MaybeData) (start : ℕ) (fs : List (List ℕ)) → checkedNumber (framesChecks form before start fs) ≢ 23
+unfolding framesChecks
+frames-never form before start [] = λ e. omega arith
+frames-never form before start (f ∷ fs) =
+    let turn = turnChecks before (isNone fs) (readOf form f) in
+    then-at-never 23 (from start turn) (framesChecks form (dataIn (readOf form f)) (start + length f) fs)
+    (from-never start turn (turn-never before (isNone fs) (readOf form f) (read-not-short form f))) (frames-never form (dataIn (readOf form f)) (start + length f) fs)
 
 size-never : (n room : ℕ) → verdictNumber (sizeVerdict n room) ≢ 23
 size-never n room =
@@ -90,18 +102,20 @@ size-never n room =
     (check-never 23 (leb n room) OutputTooShort Done (λ e. omega arith) (λ e. omega arith))
 
 joining : (form : Form) (lengths bytes : List ℕ) (room : ℕ) → joinedNumber (joinOf form lengths bytes room) ≢ 23
-unfolding joinOf joinVerdict
+unfolding joinOf joinChecks
 joining form lengths bytes room e =
     let fs = partsOf lengths bytes in
     let n = length (messageIn form fs) in
-    let r3 = andThen (framesVerdict form Nothing fs) (sizeVerdict n room) in
-    let r2 = check (not (isNone lengths)) Malformed r3 in
-    let r1 = check (eqb (sum lengths) (length bytes)) Malformed r2 in
-    check-never 23 (formValid form) OutOfRange r1 (λ e. omega arith)
-    (check-never 23 (eqb (sum lengths) (length bytes)) Malformed r2 (λ e. omega arith)
-    (check-never 23 (not (isNone lengths)) Malformed r3 (λ e. omega arith)
-    (then-never 23 (framesVerdict form Nothing fs) (sizeVerdict n room) (frames-never form Nothing fs) (size-never n room))))
-    (sym (join-by (joinVerdict form lengths bytes room) n _ refl .0) ∙ e)
+    let all = length bytes in
+    let size = allAt all (sizeVerdict n room) in
+    let r3 = andThenAt (framesChecks form Nothing 0 fs) size in
+    let r2 = checkAt (not (isNone lengths)) Malformed all r3 in
+    let r1 = checkAt (eqb (sum lengths) all) Malformed all r2 in
+    at-never 23 (formValid form) OutOfRange 0 r1 (λ e. omega arith)
+    (at-never 23 (eqb (sum lengths) all) Malformed all r2 (λ e. omega arith)
+    (at-never 23 (not (isNone lengths)) Malformed all r3 (λ e. omega arith)
+    (then-at-never 23 (framesChecks form Nothing 0 fs) size (frames-never form Nothing 0 fs) (all-never all (sizeVerdict n room) (size-never n room)))))
+    (sym (join-by (joinChecks form lengths bytes room) n _ refl .0) ∙ e)
 
 pub short-not-cut : ShortNotCut
 short-not-cut = record { in-short = in-short; in-long = in-long; joining = joining }

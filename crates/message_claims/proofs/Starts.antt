@@ -7,6 +7,7 @@ use lib.Dec.{ltb}
 use Rattle.frame.specs.declared.Data.{Data}
 use Rattle.frame.specs.declared.Packet.the-variants.{Data as DataPacket}
 use Rattle.little.specs.Little.{flag}
+use Rattle.frame_writer.specs.Writing.{valuesFit}
 use Rattle.frame.specs.Writing.{fits}
 use Rattle.message.specs.declared.cutting.Start.{Start}
 use Rattle.message.proofs.Sizes.{in-range, fits-all, next-in-range}
@@ -25,5 +26,5 @@ any-flag true x e = e
 any-flag false x e = e
 
 pub fits-start : (d : Data) (n : ℕ) → fits (DataPacket d) n ≡ true → fits (dataOf (record { sn = d .sn; ps = d .ps; pr = d .pr; ch = d .ch }) false) 0 ≡ true
-unfolding fits
+unfolding valuesFit
 fits-start d n e = any-flag (d .m) (ltb (d .sn .0) 64 && (ltb (d .ps .0) 16 && (ltb (d .pr .0) 16 && (ltb (d .ch) 16 && true)))) e

@@ -3,3 +3,4 @@ pub mod Claims
 pub mod Short
 pub mod Witness
 pub mod Refusing
+pub mod Faults

@@ -18,7 +18,7 @@ use Rattle.resequencer.specs.declared.Answer.{Answer}
 use Rattle.resequencer.specs.Events.{plain, handed, arriveOf, clockEndOf}
 use Rattle.frame_form.specs.declared.Form.{Form}
 use Rattle.frame_form.specs.declared.Form.the-variants.{LongUplink, LongDownlink}
-use Rattle.frame_codec.specs.declared.Written.the-variants.{Done as Wrote}
+use Rattle.frame.specs.declared.Written.the-variants.{Done as Wrote}
 use Rattle.frame.specs.declared.Packet.{Packet}
 use Rattle.frame.specs.declared.Packet.the-variants.{Data, ClearRequest, ClearConfirmation}
 use Rattle.frame.specs.declared.Read.the-variants.{Packet as PacketRead}

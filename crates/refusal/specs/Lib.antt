@@ -1,2 +1,3 @@
--- The definitions that the contracts of `refusal` use.
+-- The definitions that the contracts of `refusal` use, and checks with a position.
 pub mod Numbers
+pub mod Positions

@@ -1,8 +1,9 @@
 -- The refusal numbers, and how the definitions list the checks of a call: document 01, "Refusal
 -- numbers", and document 02 for the numbers past 17.
 -- Assumes nothing.
-use mathlib.Core.Bool.{Bool, true, false}
+use mathlib.Core.Bool.{Bool, true, false, cond}
 use Prim.Native.Nat.{ℕ}
+use lib.Dec.{eqb}
 use Rattle.refusal.specs.declared.Refusal.{Refusal}
 use Rattle.refusal.specs.declared.Refusal.the-variants.{OutOfRange, Malformed, FormatError, MessageTooLong, OutputTooShort, RouteListMalformed, NoClock, NoInterrogator, WindowClosed, OutsideWindow, OutOfSequence, FirstNotZero, PacketTooLong, NotInOrder, AllFailed, NeverSent, RunBroken, ShortForm}
 use Rattle.refusal.specs.declared.Verdict.{Verdict}
@@ -28,6 +29,27 @@ numberOf AllFailed = 15
 numberOf NeverSent = 16
 numberOf RunBroken = 17
 numberOf ShortForm = 23
+
+-- the refusal with a number in the table; `OutOfRange` if there is none
+unfoldable pub refusalAt : ℕ → Refusal
+refusalAt n =
+    cond (eqb n 2) Malformed
+    (cond (eqb n 3) FormatError
+    (cond (eqb n 4) MessageTooLong
+    (cond (eqb n 5) OutputTooShort
+    (cond (eqb n 6) RouteListMalformed
+    (cond (eqb n 7) NoClock
+    (cond (eqb n 8) NoInterrogator
+    (cond (eqb n 9) WindowClosed
+    (cond (eqb n 10) OutsideWindow
+    (cond (eqb n 11) OutOfSequence
+    (cond (eqb n 12) FirstNotZero
+    (cond (eqb n 13) PacketTooLong
+    (cond (eqb n 14) NotInOrder
+    (cond (eqb n 15) AllFailed
+    (cond (eqb n 16) NeverSent
+    (cond (eqb n 17) RunBroken
+    (cond (eqb n 23) ShortForm OutOfRange))))))))))))))))
 
 -- the number of a verdict: 0 is "done", else the refusal's number
 abbrev pub verdictNumber : Verdict → ℕ

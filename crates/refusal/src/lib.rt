@@ -3,7 +3,7 @@
 ghost use mathlib.Core.Path.{_≡_};
 ghost use mathlib.Core.Bool.{cond};
 ghost use lib.Dec.{eqb};
-ghost use Rattle.refusal.specs.Numbers.{numberOf, verdictNumber};
+ghost use Rattle.refusal.specs.Numbers.{numberOf, refusalAt, verdictNumber};
 
 // Why a call is refused. The comment of each case is its row in document 01's table; past 17, what
 // the request of document 02 says.
@@ -90,6 +90,51 @@ impl Refusal {
     {
         let place = self.place();
         if place == 18 { 23 } else { place }
+    }
+}
+
+impl Refusal {
+    // The refusal with the number `n` in the table; `OutOfRange` if there is none.
+    pub fn at(n: u8) -> Refusal
+        ensures { λ r. ⌜ r ≡ refusalAt n ⌝ }
+    {
+        if n == 2 {
+            Refusal::Malformed
+        } else if n == 3 {
+            Refusal::FormatError
+        } else if n == 4 {
+            Refusal::MessageTooLong
+        } else if n == 5 {
+            Refusal::OutputTooShort
+        } else if n == 6 {
+            Refusal::RouteListMalformed
+        } else if n == 7 {
+            Refusal::NoClock
+        } else if n == 8 {
+            Refusal::NoInterrogator
+        } else if n == 9 {
+            Refusal::WindowClosed
+        } else if n == 10 {
+            Refusal::OutsideWindow
+        } else if n == 11 {
+            Refusal::OutOfSequence
+        } else if n == 12 {
+            Refusal::FirstNotZero
+        } else if n == 13 {
+            Refusal::PacketTooLong
+        } else if n == 14 {
+            Refusal::NotInOrder
+        } else if n == 15 {
+            Refusal::AllFailed
+        } else if n == 16 {
+            Refusal::NeverSent
+        } else if n == 17 {
+            Refusal::RunBroken
+        } else if n == 23 {
+            Refusal::ShortForm
+        } else {
+            Refusal::OutOfRange
+        }
     }
 }
 

@@ -6,10 +6,12 @@ use Prim.Native.Nat.{ℕ}
 use native.Mathlib.Omega.{arith}
 use lib.ListN.{length}
 use Rattle.frame_form.specs.Segments.{padding, lastUsed, wholeSegments}
-use Rattle.frame_codec.specs.Frames.{framed}
-use Rattle.frame_codec.specs.Reading.{shapeVerdict, contentVerdict, readVerdict, userLengthOf}
-use Rattle.frame.specs.Writing.{fits, frameOf}
-use Rattle.frame.specs.Reading.{seenIn, readAs, readOf, snIn}
+use Rattle.frame_form.specs.Frames.{framed}
+use Rattle.frame_reader.specs.Faults.{packetLength, lvRight, tailFault, firstFault}
+use Rattle.frame_reader.specs.Reading.{readChecks}
+use Rattle.frame_writer.specs.Writing.{valuesFit, frameBy}
+use Rattle.frame.specs.Writing.{fits}
+use Rattle.frame.specs.Reading.{readOf, snIn}
 use Rattle.message.specs.declared.cutting.Cut.the-variants.{Frames}
 use Rattle.message.specs.Cutting.{dataOf, fullFrames, framesFrom, framesOf, cutVerdict, cutOf}
 use Rattle.transfer_claims.specs.Circuit.{frameAt}
@@ -18,19 +20,19 @@ use Rattle.transfer_claims.specs.Witness.{oneSegment, firstNumbers, many
 use Rattle.transfer_claims.proofs.Claims.{transfer}
 
 answer : cutOf oneSegment firstNumbers manyBytes 650 65 ≡ Frames 65 650
-unfolding padding lastUsed framed fits frameOf fullFrames framesFrom framesOf cutVerdict cutOf
+unfolding padding lastUsed framed valuesFit frameBy fullFrames framesFrom framesOf cutVerdict cutOf
 answer = refl
 
 count : length (framesOf oneSegment firstNumbers manyBytes) ≡ 65
-unfolding padding lastUsed framed frameOf fullFrames framesFrom framesOf
+unfolding padding lastUsed framed frameBy fullFrames framesFrom framesOf
 count = refl
 
 last-number : snIn (readOf oneSegment (frameAt (framesOf oneSegment firstNumbers manyBytes) 63)) ≡ 63
-unfolding padding lastUsed wholeSegments framed shapeVerdict contentVerdict readVerdict userLengthOf frameOf seenIn readAs readOf fullFrames framesFrom framesOf
+unfolding padding lastUsed wholeSegments framed packetLength lvRight tailFault firstFault readChecks frameBy readOf fullFrames framesFrom framesOf
 last-number = refl
 
 first-again : snIn (readOf oneSegment (frameAt (framesOf oneSegment firstNumbers manyBytes) 64)) ≡ 0
-unfolding padding lastUsed wholeSegments framed shapeVerdict contentVerdict readVerdict userLengthOf frameOf seenIn readAs readOf fullFrames framesFrom framesOf
+unfolding padding lastUsed wholeSegments framed packetLength lvRight tailFault firstFault readChecks frameBy readOf fullFrames framesFrom framesOf
 first-again = refl
 
 one-by-one : FramesAllowedList oneSegment (framesOf oneSegment firstNumbers manyBytes) (oneByOne 0 65)
@@ -40,7 +42,7 @@ one-by-one =
     (transfer .possible oneSegment (framesOf oneSegment firstNumbers manyBytes))
 
 fit : fits (dataOf firstNumbers false) 0 ≡ true
-unfolding fits
+unfolding valuesFit
 fit = refl
 
 pub past-sixty-three : PastSixtyThree

@@ -248,7 +248,7 @@ fn number_of(read: Read) -> u8
             let sn = packet.sn();
             sn.0
         }
-        Read::Refused(_why) => 64,
+        Read::Refused(_why, _at) => 64,
     }
 }
 
@@ -449,7 +449,7 @@ fn tell_joined(answer: Joined, message: &[u8], joined: &[u8], good: &mut bool) {
                 text(b" bytes: not the message\n", good);
             }
         }
-        Joined::Refused(why) => {
+        Joined::Refused(why, _at) => {
             text(b"not joined: refused ", good);
             number(why.number() as usize, good);
             text(b"\n", good);

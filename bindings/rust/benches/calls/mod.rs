@@ -54,8 +54,10 @@ calls! {
     "read-request" read_request false;
     "write-confirmation" write_confirmation false;
     "read-confirmation" read_confirmation false;
+    "frame-fault" frame_fault false;
     "cut" cut true;
     "join" join true;
+    "message-fault" message_fault false;
     "update" update false;
     "choose" choose false;
 }
@@ -224,12 +226,16 @@ fn write<V: Version>(packet: Packet, user_length: usize) -> Run {
     })
 }
 
-fn read<V: Version>(packet: Packet, user_length: usize) -> Run {
+fn written(packet: Packet, user_length: usize) -> Vec<u8> {
     let mut frame = vec![0; 160];
     let user = vec![0x55; user_length];
     let length = frame::write(Form::LongUplink, &packet, &user, &mut frame).unwrap();
     frame.truncate(length);
-    let form = V::form(Form::LongUplink);
+    frame
+}
+
+fn read<V: Version>(packet: Packet, user_length: usize) -> Run {
+    let (form, frame) = (V::form(Form::LongUplink), written(packet, user_length));
     looped(move || V::read(black_box(form), black_box(&frame[..])))
 }
 
@@ -261,6 +267,13 @@ fn read_confirmation<V: Version>() -> Run {
     read::<V>(CONFIRMATION, 0)
 }
 
+/// The last byte of the padding is wrong, so that all of the frame is looked at.
+fn frame_fault<V: Version>() -> Run {
+    let (form, mut frame) = (V::form(Form::LongUplink), written(REQUEST, REQUEST_USER));
+    *frame.last_mut().expect("it is not empty") = 1;
+    looped(move || V::frame_fault(black_box(form), black_box(&frame[..])))
+}
+
 const MESSAGE: usize = 4096;
 const START: Start = Start {
     sn: 50,
@@ -282,16 +295,33 @@ fn cut<V: Version>() -> Run {
     })
 }
 
-fn join<V: Version>() -> Run {
+/// The message's frames and their lengths.
+fn frames_to_join() -> (Vec<u8>, Vec<usize>) {
     let (mut frames, mut lengths) = (vec![0; 4480], vec![0; 30]);
     let (message, form) = (some_message(), Form::LongUplink);
     let made = message::cut(form, START, &message, &mut frames, &mut lengths).unwrap();
     frames.truncate(made.bytes);
     lengths.truncate(made.frames);
-    let (form, mut out) = (V::form(form), vec![0; MESSAGE]);
+    (frames, lengths)
+}
+
+fn join<V: Version>() -> Run {
+    let (frames, lengths) = frames_to_join();
+    let (form, mut out) = (V::form(Form::LongUplink), vec![0; MESSAGE]);
     looped(move || {
         let (lengths, frames) = (black_box(&lengths[..]), black_box(&frames[..]));
         V::join(black_box(form), lengths, frames, black_box(&mut out[..]))
+    })
+}
+
+/// The last byte of all the data, padding of the last frame, is wrong.
+fn message_fault<V: Version>() -> Run {
+    let (mut frames, lengths) = frames_to_join();
+    *frames.last_mut().expect("there are frames") = 1;
+    let form = V::form(Form::LongUplink);
+    looped(move || {
+        let (lengths, frames) = (black_box(&lengths[..]), black_box(&frames[..]));
+        V::message_fault(black_box(form), lengths, frames, MESSAGE)
     })
 }
 

@@ -47,6 +47,7 @@ pub trait Version {
     fn receive(state: &mut Self::Receiver, ps: u8) -> u64;
     fn write(form: Self::Form, packet: &Self::Packet, user: &[u8], out: &mut [u8]) -> u64;
     fn read(form: Self::Form, frame: &[u8]) -> u64;
+    fn frame_fault(form: Self::Form, frame: &[u8]) -> u64;
     fn cut(
         form: Self::Form,
         start: Start,
@@ -55,6 +56,7 @@ pub trait Version {
         lengths: &mut [usize],
     ) -> u64;
     fn join(form: Self::Form, lengths: &[usize], frames: &[u8], out: &mut [u8]) -> u64;
+    fn message_fault(form: Self::Form, lengths: &[usize], frames: &[u8], room: usize) -> u64;
     fn update(table: &mut Self::Table, list: &[u8], lost: &mut Lost) -> u64;
     fn choose(table: &Self::Table, asked: Asked) -> u64;
 }
@@ -157,6 +159,11 @@ impl Version for Library {
     }
 
     #[inline(always)]
+    fn frame_fault(form: u8, frame: &[u8]) -> u64 {
+        (unsafe { raw::pk_frame_fault(form, frame.as_ptr(), frame.len()) }) as u64
+    }
+
+    #[inline(always)]
     fn cut(form: u8, start: Start, message: &[u8], out: &mut [u8], lengths: &mut [usize]) -> u64 {
         let Start { sn, ps, pr, ch } = start;
         done(unsafe {
@@ -189,6 +196,13 @@ impl Version for Library {
                 out.len(),
             )
         })
+    }
+
+    #[inline(always)]
+    fn message_fault(form: u8, lengths: &[usize], frames: &[u8], room: usize) -> u64 {
+        let (start, length) = (frames.as_ptr(), frames.len());
+        let (lengths, count) = (lengths.as_ptr(), lengths.len());
+        (unsafe { raw::pk_message_fault(form, lengths, count, start, length, room) }) as u64
     }
 
     #[inline(always)]
@@ -277,12 +291,22 @@ impl Version for Nothing {
     }
 
     #[inline(always)]
+    fn frame_fault(_: Form, _: &[u8]) -> u64 {
+        nothing()
+    }
+
+    #[inline(always)]
     fn cut(_: Form, _: Start, _: &[u8], _: &mut [u8], _: &mut [usize]) -> u64 {
         nothing()
     }
 
     #[inline(always)]
     fn join(_: Form, _: &[usize], _: &[u8], _: &mut [u8]) -> u64 {
+        nothing()
+    }
+
+    #[inline(always)]
+    fn message_fault(_: Form, _: &[usize], _: &[u8], _: usize) -> u64 {
         nothing()
     }
 
@@ -297,9 +321,10 @@ impl Version for Nothing {
     }
 }
 
-/// A Rust version: the same text for `plain` and `best`, which have the same calls.
+/// A Rust version: the same text for `plain` and `best`, which have the same calls. Reading and
+/// joining answer the refusal with its position in one and without it in the other.
 macro_rules! rust_version {
-    ($(#[$doc:meta])* $name:ident, $package:ident, $resequencer:expr) => {
+    ($(#[$doc:meta])* $name:ident, $package:ident, $resequencer:expr, $refused:ty) => {
         $(#[$doc])*
         pub struct $name;
 
@@ -400,7 +425,7 @@ macro_rules! rust_version {
             #[inline(always)]
             fn read(form: Form, frame: &[u8]) -> u64 {
                 #[inline(never)]
-                fn call(form: Form, frame: &[u8]) -> Result<(Packet, &[u8]), plain::Refusal> {
+                fn call(form: Form, frame: &[u8]) -> Result<(Packet, &[u8]), $refused> {
                     $package::frame::read(form, frame)
                 }
                 // Looked at where it stands: a copy would be none of the call's work.
@@ -412,6 +437,15 @@ macro_rules! rust_version {
                 | Packet::ClearRequest { sn, .. }
                 | Packet::ClearConfirmation { sn, .. }) = *packet;
                 user.len() as u64 + u64::from(sn)
+            }
+
+            #[inline(always)]
+            fn frame_fault(form: Form, frame: &[u8]) -> u64 {
+                #[inline(never)]
+                fn call(form: Form, frame: &[u8]) -> usize {
+                    $package::frame::fault(form, frame)
+                }
+                call(form, frame) as u64
             }
 
             #[inline(always)]
@@ -443,10 +477,19 @@ macro_rules! rust_version {
                     lengths: &[usize],
                     frames: &[u8],
                     out: &mut [u8],
-                ) -> Result<usize, plain::Refusal> {
+                ) -> Result<usize, $refused> {
                     $package::message::join(form, lengths, frames, out)
                 }
                 call(form, lengths, frames, out).unwrap() as u64
+            }
+
+            #[inline(always)]
+            fn message_fault(form: Form, lengths: &[usize], frames: &[u8], room: usize) -> u64 {
+                #[inline(never)]
+                fn call(form: Form, lengths: &[usize], frames: &[u8], room: usize) -> usize {
+                    $package::message::fault(form, lengths, frames, room)
+                }
+                call(form, lengths, frames, room) as u64
             }
 
             #[inline(always)]
@@ -484,11 +527,13 @@ rust_version!(
     /// The plain Rust version.
     Plain,
     plain,
-    Resequencer::clone
+    Resequencer::clone,
+    plain::Fault
 );
 rust_version!(
     /// The fastest safe Rust version.
     Best,
     best,
-    best::resequencer::Resequencer::from_plain
+    best::resequencer::Resequencer::from_plain,
+    plain::Refusal
 );

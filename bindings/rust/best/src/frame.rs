@@ -107,7 +107,7 @@ pub fn read(form: Form, frame: &[u8]) -> Result<(Packet, &[u8]), Refusal> {
     }
 }
 
-#[inline]
+#[inline(always)] // into every caller, that which asks for the position too
 pub(crate) fn read_in<const SEGMENT: usize>(
     largest: usize,
     frame: &[u8],
@@ -185,6 +185,64 @@ pub(crate) fn user_data<'a, const SEGMENT: usize, const HEADER: usize>(
     }
     // Only a frame of one segment can end before its header does.
     frame.get(HEADER..length).ok_or(Refusal::FormatError)
+}
+
+/// Where a frame is bad; 0 if it reads. Only one that is refused is looked at again.
+#[inline]
+pub fn fault(form: Form, frame: &[u8]) -> usize {
+    match long_largest(form) {
+        Ok(Some(largest)) => fault_in::<LONG>(largest, frame),
+        Ok(None) => fault_in::<SHORT>(SHORT_LARGEST, frame),
+        Err(_) => 0,
+    }
+}
+
+#[inline]
+pub(crate) fn fault_in<const SEGMENT: usize>(largest: usize, frame: &[u8]) -> usize {
+    match read_in::<SEGMENT>(largest, frame) {
+        Ok(_) => 0,
+        Err(Refusal::Malformed) => frame.len(),
+        Err(Refusal::PacketTooLong) => largest,
+        Err(_) => first_wrong::<SEGMENT>(frame),
+    }
+}
+
+/// The first wrong byte of a frame in whole segments that has one.
+#[inline]
+fn first_wrong<const SEGMENT: usize>(frame: &[u8]) -> usize {
+    let (Some(first), Some(last)) = (frame.first_chunk(), frame.last_chunk()) else {
+        return 0;
+    };
+    let length = frame.len();
+    match first[0] {
+        0x80.. => lv_or_padding::<SEGMENT, 3>(first[2], length, last),
+        CLEAR_REQUEST if first[6] & 0x60 != 0 => 6,
+        CLEAR_REQUEST => lv_or_padding::<SEGMENT, 7>(first[6], length, last),
+        // What lies past the one segment is wrong whatever it holds.
+        CLEAR_CONFIRMATION => not_zero_from::<SEGMENT>(4, first),
+        _ => 0,
+    }
+}
+
+/// The header's last byte if the LV in it is wrong, else the first padding byte that is not 0.
+#[inline]
+fn lv_or_padding<const SEGMENT: usize, const HEADER: usize>(
+    header_end: u8,
+    length: usize,
+    last: &[u8; SEGMENT],
+) -> usize {
+    let (lv, early) = (usize::from(header_end & 15), length - SEGMENT);
+    if lv == 0 || lv > SEGMENT || early + lv < HEADER {
+        return HEADER - 1;
+    }
+    early + not_zero_from(lv, last)
+}
+
+/// The first byte of a segment from this one on that is not 0, or where the segment ends.
+#[inline]
+fn not_zero_from<const SEGMENT: usize>(start: usize, segment: &[u8; SEGMENT]) -> usize {
+    let zeros = (as_word(segment) >> (8 * start)).trailing_zeros() as usize / 8;
+    SEGMENT.min(start + zeros)
 }
 
 /// A segment as one word, its first byte lowest.

@@ -2,12 +2,12 @@
 //! cut.
 
 use crate::frame::{
-    as_word, long_largest, put, read_in, user_data, written_largest, LONG, SHORT, SHORT_LARGEST,
-    UPLINK_LARGEST,
+    as_word, fault_in, long_largest, put, read_in, user_data, written_largest, LONG, SHORT,
+    SHORT_LARGEST, UPLINK_LARGEST,
 };
 use plain::frame::Form;
 use plain::message::{Cut, Start, LONGEST};
-use plain::Refusal;
+use plain::{Fault, Refusal};
 
 const HEADER: usize = 3;
 
@@ -128,30 +128,62 @@ fn join_in<const SEGMENT: usize>(
     frames: &[u8],
     out: &mut [u8],
 ) -> Result<usize, Refusal> {
-    let Some((&last, early)) = lengths.split_last() else {
-        return Err(Refusal::Malformed);
-    };
-    let sum = early.iter().try_fold(last, |sum, &l| sum.checked_add(l));
-    if sum != Some(frames.len()) {
-        return Err(Refusal::Malformed);
-    }
-    let full = Full::new(SEGMENT, largest);
-    let (mut rest, mut total, mut due) = (frames, 0, None);
-    for &length in early {
-        let (frame, after) = rest.split_at(length);
-        rest = after;
-        if full.is_due::<SEGMENT>(frame, &mut due) {
-            total += largest - HEADER;
-        } else {
-            total += one_frame::<SEGMENT>(largest, frame, true, &mut due)?;
-        }
-    }
-    total += one_frame::<SEGMENT>(largest, rest, false, &mut due)?;
+    let total = total_in::<SEGMENT>(largest, lengths, frames)?;
     if total > LONGEST {
         return Err(Refusal::MessageTooLong);
     }
     let message = out.get_mut(..total).ok_or(Refusal::OutputTooShort)?;
     gather::<SEGMENT>(lengths, frames, message);
+    Ok(total)
+}
+
+/// Where joining into so many bytes finds the first fault; 0 if the frames are joined.
+#[inline]
+pub fn fault(form: Form, lengths: &[usize], frames: &[u8], room: usize) -> usize {
+    let total = match long_largest(form) {
+        Ok(Some(largest)) => total_in::<LONG>(largest, lengths, frames),
+        Ok(None) => total_in::<SHORT>(SHORT_LARGEST, lengths, frames),
+        Err(_) => return 0,
+    };
+    match total {
+        Ok(total) if total <= LONGEST.min(room) => 0,
+        Ok(_) => frames.len(),
+        Err(fault) => fault.at,
+    }
+}
+
+/// Checks the lengths and every frame; answers the length of the message.
+#[inline]
+fn total_in<const SEGMENT: usize>(
+    largest: usize,
+    lengths: &[usize],
+    frames: &[u8],
+) -> Result<usize, Fault> {
+    let Some((&last, early)) = lengths.split_last() else {
+        return Err(Refusal::Malformed.at(frames.len()));
+    };
+    let sum = early.iter().try_fold(last, |sum, &l| sum.checked_add(l));
+    if sum != Some(frames.len()) {
+        return Err(Refusal::Malformed.at(frames.len()));
+    }
+    // A frame that reads can only be wrong as a whole: its first byte, and `fault_in` gives 0.
+    let told = |refusal: Refusal, frame: &[u8], start: usize| {
+        refusal.at(start + fault_in::<SEGMENT>(largest, frame))
+    };
+    let full = Full::new(SEGMENT, largest);
+    let (mut rest, mut total, mut due) = (frames, 0, None);
+    for &length in early {
+        let (frame, after) = rest.split_at(length);
+        if full.is_due::<SEGMENT>(frame, &mut due) {
+            total += largest - HEADER;
+        } else {
+            total += one_frame::<SEGMENT>(largest, frame, true, &mut due)
+                .map_err(|refusal| told(refusal, frame, frames.len() - rest.len()))?;
+        }
+        rest = after;
+    }
+    total += one_frame::<SEGMENT>(largest, rest, false, &mut due)
+        .map_err(|refusal| told(refusal, rest, frames.len() - rest.len()))?;
     Ok(total)
 }
 

@@ -210,7 +210,9 @@ fn frames() {
 fn read_and_damage(random: &mut Random, form: Form, mut frame: Vec<u8>) {
     for _ in 0..8 {
         let read = plain::frame::read(form, &frame);
-        assert_eq!(best::frame::read(form, &frame), read);
+        assert_eq!(best::frame::read(form, &frame), read.map_err(Refusal::from));
+        let at = read.map_or_else(|fault| fault.at, |_| 0);
+        assert_eq!(best::frame::fault(form, &frame), at, "{frame:x?}");
         let at = random.below(frame.len());
         frame[at] ^= 1 << random.below(8);
         if random.one_in(8) {
@@ -316,9 +318,11 @@ fn join(random: &mut Random, form: Form, mut lengths: Vec<usize>, mut frames: Ve
         let answer = plain::message::join(form, &lengths, &frames, &mut plain);
         assert_eq!(
             best::message::join(form, &lengths, &frames, &mut fast),
-            answer
+            answer.map_err(Refusal::from)
         );
         assert_eq!(fast, plain);
+        let at = answer.map_or_else(|fault| fault.at, |_| 0);
+        assert_eq!(best::message::fault(form, &lengths, &frames, room), at);
         match random.below(6) {
             0 => {
                 let at = random.below(lengths.len());

@@ -1,6 +1,6 @@
 //! Frames: one packet each, padded to whole segments.
 
-use crate::Refusal;
+use crate::{Fault, Refusal};
 
 /// The form of a frame.
 #[derive(Clone, Copy, Debug, PartialEq, Eq)]
@@ -260,23 +260,32 @@ fn put(sizes: Sizes, packet: &Packet, user: &[u8], out: &mut [u8]) -> Result<usi
     Ok(frame.len())
 }
 
-/// Reads a frame: the packet, and its user data where it stands in the frame.
-#[inline]
-pub fn read(form: Form, frame: &[u8]) -> Result<(Packet, &[u8]), Refusal> {
+/// Reads a frame: the packet, and its user data where it stands in the frame. Checks 1, 2, 3, 13.
+///
+/// The position of a fault is the frame's length for 2, the first wrong byte for 3, and the form's
+/// largest size for 13.
+#[inline(always)] // into every caller, those that ask for the position alone too
+pub fn read(form: Form, frame: &[u8]) -> Result<(Packet, &[u8]), Fault> {
     let sizes = form.sizes()?;
     if frame.is_empty() || !frame.len().is_multiple_of(sizes.segment) {
-        return Err(Refusal::Malformed);
+        return Err(Refusal::Malformed.at(frame.len()));
     }
     match frame[0] {
         0x80.. => read_data(sizes, frame),
         CLEAR_REQUEST => read_clear_request(sizes, frame),
         CLEAR_CONFIRMATION => read_clear_confirmation(sizes, frame),
-        _ => Err(Refusal::FormatError),
+        _ => Err(Refusal::FormatError.at(0)),
     }
 }
 
+/// Where reading finds the first fault of a frame; 0 if the frame reads.
 #[inline]
-fn read_data(sizes: Sizes, frame: &[u8]) -> Result<(Packet, &[u8]), Refusal> {
+pub fn fault(form: Form, frame: &[u8]) -> usize {
+    read(form, frame).map_or_else(|fault| fault.at, |_| 0)
+}
+
+#[inline]
+fn read_data(sizes: Sizes, frame: &[u8]) -> Result<(Packet, &[u8]), Fault> {
     let user = user_data(sizes, frame, DATA_HEADER)?;
     let packet = Packet::Data {
         m: frame[0] & 0x40 != 0,
@@ -289,10 +298,10 @@ fn read_data(sizes: Sizes, frame: &[u8]) -> Result<(Packet, &[u8]), Refusal> {
 }
 
 #[inline]
-fn read_clear_request(sizes: Sizes, frame: &[u8]) -> Result<(Packet, &[u8]), Refusal> {
+fn read_clear_request(sizes: Sizes, frame: &[u8]) -> Result<(Packet, &[u8]), Fault> {
     let last = frame[CLEAR_REQUEST_HEADER - 1];
     if last & 0x60 != 0 {
-        return Err(Refusal::FormatError);
+        return Err(Refusal::FormatError.at(CLEAR_REQUEST_HEADER - 1));
     }
     let user = user_data(sizes, frame, CLEAR_REQUEST_HEADER)?;
     let packet = Packet::ClearRequest {
@@ -309,11 +318,12 @@ fn read_clear_request(sizes: Sizes, frame: &[u8]) -> Result<(Packet, &[u8]), Ref
     Ok((packet, user))
 }
 
+/// The first byte past the one segment is wrong whatever it holds, and padding comes before it.
 #[inline]
-fn read_clear_confirmation(sizes: Sizes, frame: &[u8]) -> Result<(Packet, &[u8]), Refusal> {
-    let padding = &frame[CLEAR_CONFIRMATION_HEADER..];
-    if frame.len() != sizes.segment || padding.iter().any(|&byte| byte != 0) {
-        return Err(Refusal::FormatError);
+fn read_clear_confirmation(sizes: Sizes, frame: &[u8]) -> Result<(Packet, &[u8]), Fault> {
+    let at = end_of_zeros(&frame[..sizes.segment], CLEAR_CONFIRMATION_HEADER);
+    if at < frame.len() {
+        return Err(Refusal::FormatError.at(at));
     }
     let packet = Packet::ClearConfirmation {
         tc: frame[1] >> 6,
@@ -329,21 +339,32 @@ fn read_clear_confirmation(sizes: Sizes, frame: &[u8]) -> Result<(Packet, &[u8])
 }
 
 /// The user data of a frame whose header ends with LV; checks LV and padding (3), then the
-/// packet's size (13).
+/// packet's size (13). Where LV is wrong no byte can be told to be padding.
 #[inline]
-fn user_data(sizes: Sizes, frame: &[u8], header: usize) -> Result<&[u8], Refusal> {
+fn user_data(sizes: Sizes, frame: &[u8], header: usize) -> Result<&[u8], Fault> {
     let lv = usize::from(frame[header - 1] & 0x0F);
     let length = frame.len() - sizes.segment + lv;
     if lv == 0 || lv > sizes.segment || length < header {
-        return Err(Refusal::FormatError);
+        return Err(Refusal::FormatError.at(header - 1));
     }
-    if frame[length..].iter().any(|&byte| byte != 0) {
-        return Err(Refusal::FormatError);
+    let at = end_of_zeros(frame, length);
+    if at < frame.len() {
+        return Err(Refusal::FormatError.at(at));
     }
     if length > sizes.largest {
-        return Err(Refusal::PacketTooLong);
+        return Err(Refusal::PacketTooLong.at(sizes.largest));
     }
     Ok(&frame[header..length])
+}
+
+/// The first byte from here on that is not 0, or the end of all.
+#[inline]
+fn end_of_zeros(bytes: &[u8], start: usize) -> usize {
+    let mut at = start;
+    while at < bytes.len() && bytes[at] == 0 {
+        at += 1;
+    }
+    at
 }
 
 #[cfg(test)]
@@ -392,7 +413,7 @@ mod tests {
         assert_eq!(read(LONG, &out), Ok((DATA, &[7; 149][..])));
         for lv in 3..=10 {
             let frame = zeros_after(&[0x80, 0, lv], 160);
-            assert_eq!(read(LONG, &frame), Err(Refusal::PacketTooLong));
+            assert_eq!(read(LONG, &frame), Err(Refusal::PacketTooLong.at(152)));
         }
         assert_eq!(
             write(LONG, &DATA, &[7; 150], &mut out),
@@ -404,9 +425,9 @@ mod tests {
     fn too_long_comes_after_padding() {
         let form = Form::LongDownlink(1);
         let mut frame = zeros_after(&[0x80, 0, 3], 20);
-        assert_eq!(read(form, &frame), Err(Refusal::PacketTooLong));
+        assert_eq!(read(form, &frame), Err(Refusal::PacketTooLong.at(10)));
         frame[19] = 1;
-        assert_eq!(read(form, &frame), Err(Refusal::FormatError));
+        assert_eq!(read(form, &frame), Err(Refusal::FormatError.at(19)));
     }
 
     #[test]
@@ -441,33 +462,36 @@ mod tests {
     #[test]
     fn reading_order() {
         let none = Form::LongDownlink(17);
-        assert_eq!(read(none, &[]), Err(Refusal::OutOfRange));
-        assert_eq!(read(LONG, &[]), Err(Refusal::Malformed));
-        assert_eq!(read(LONG, &[0xFF; 11]), Err(Refusal::Malformed));
-        assert_eq!(read(LONG, &[0x00; 10]), Err(Refusal::FormatError));
+        assert_eq!(read(none, &[]), Err(Refusal::OutOfRange.at(0)));
+        assert_eq!(read(LONG, &[]), Err(Refusal::Malformed.at(0)));
+        assert_eq!(read(LONG, &[0xFF; 11]), Err(Refusal::Malformed.at(11)));
+        assert_eq!(read(LONG, &[0x00; 10]), Err(Refusal::FormatError.at(0)));
     }
 
     #[test]
     fn lv_below_the_header_counts_with_one_segment_only() {
         assert_eq!(
             read(LONG, &zeros_after(&[0x80, 0, 2], 10)),
-            Err(Refusal::FormatError)
+            Err(Refusal::FormatError.at(2))
         );
         let two = zeros_after(&[0x80, 0, 2], 20);
         assert_eq!(read(LONG, &two), Ok((DATA, &[0; 9][..])));
         let short = zeros_after(&[0x80, 0, 8], 14);
-        assert_eq!(read(Form::ShortUplink, &short), Err(Refusal::FormatError));
+        assert_eq!(
+            read(Form::ShortUplink, &short),
+            Err(Refusal::FormatError.at(2))
+        );
     }
 
     #[test]
     fn a_confirmation_has_one_segment() {
         let frame = zeros_after(&[0x5C, 9, 0x32, 0x41], 20);
-        assert_eq!(read(LONG, &frame), Err(Refusal::FormatError));
+        assert_eq!(read(LONG, &frame), Err(Refusal::FormatError.at(10)));
         assert_eq!(read(LONG, &frame[..10]), Ok((CONFIRMATION, &[][..])));
         for at in 4..10 {
             let mut frame = frame[..10].to_vec();
             frame[at] = 1;
-            assert_eq!(read(LONG, &frame), Err(Refusal::FormatError));
+            assert_eq!(read(LONG, &frame), Err(Refusal::FormatError.at(at)));
         }
     }
 
@@ -478,12 +502,12 @@ mod tests {
         for first in (0..0x80).filter(|&byte| byte != 0x58 && byte != 0x5C) {
             let mut frame = zeros_after(&front, 10);
             frame[0] = first;
-            assert_eq!(read(LONG, &frame), Err(Refusal::FormatError));
+            assert_eq!(read(LONG, &frame), Err(Refusal::FormatError.at(0)));
         }
         for last in [0x27, 0x47, 0x67, 0x06, 0x0B] {
             let mut frame = zeros_after(&front, 10);
             frame[6] = last;
-            assert_eq!(read(LONG, &frame), Err(Refusal::FormatError));
+            assert_eq!(read(LONG, &frame), Err(Refusal::FormatError.at(6)));
         }
     }
 

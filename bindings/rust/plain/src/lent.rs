@@ -190,6 +190,11 @@ pub fn frame_read(form: u8, frame: &[u8], packet: &mut [u8]) -> u64 {
     packed::reading(&read)
 }
 
+/// The position of what a read refuses the frame for; it knows of no places for the packet.
+pub fn frame_fault(form: u8, frame: &[u8]) -> usize {
+    Form::from_number(form).map_or(0, |form| frame::fault(form, frame))
+}
+
 pub fn message_cut(
     form: u8,
     start: Start,
@@ -203,8 +208,14 @@ pub fn message_cut(
 }
 
 pub fn message_join(form: u8, lengths: &[usize], frames: &[u8], out: &mut [u8]) -> u64 {
-    let length = Form::from_number(form).and_then(|form| message::join(form, lengths, frames, out));
+    let length =
+        Form::from_number(form).and_then(|form| Ok(message::join(form, lengths, frames, out)?));
     answer(&length, |&length| length as u64)
+}
+
+/// The position of what a joining into so many bytes refuses the frames for.
+pub fn message_fault(form: u8, lengths: &[usize], frames: &[u8], out_len: usize) -> usize {
+    Form::from_number(form).map_or(0, |form| message::fault(form, lengths, frames, out_len))
 }
 
 pub fn table_empty(table: &mut [u8]) -> u64 {

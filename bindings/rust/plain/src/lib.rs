@@ -3,7 +3,8 @@
 //! that it is held against.
 //!
 //! Every call checks what the rules name, in their order, and answers a [`Refusal`] at the
-//! first thing wrong; it then has changed neither the state nor any lent list.
+//! first thing wrong; it then has changed neither the state nor any lent list. Reading and joining
+//! say where that is as well, by a [`Fault`].
 //!
 //! [`lent`] has the same calls as the interface makes them, on lent lists and with packed answers.
 //! [`replay`] is the replay program.
@@ -22,8 +23,10 @@ pub mod resequencer;
 pub mod route;
 pub mod window;
 
-pub use refusal::Refusal;
+pub use refusal::{Fault, Refusal};
 
+#[cfg(test)]
+mod faults;
 #[cfg(test)]
 mod paper;
 #[cfg(test)]

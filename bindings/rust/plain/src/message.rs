@@ -2,7 +2,7 @@
 
 use crate::frame::{self, Form, Packet, Sizes, DATA_HEADER};
 use crate::number::{link_next, packet_next};
-use crate::Refusal;
+use crate::{Fault, Refusal};
 
 /// The longest message.
 pub const LONGEST: usize = 4096;
@@ -123,61 +123,85 @@ struct Run {
 }
 
 /// Joins DATA frames, which stand one after the other and have these lengths; answers the
-/// length of their message.
+/// length of their message. The position of a fault is one in all of `frames`.
 #[inline]
-pub fn join(
-    form: Form,
-    lengths: &[usize],
-    frames: &[u8],
-    out: &mut [u8],
-) -> Result<usize, Refusal> {
-    let sizes = form.sizes()?;
+pub fn join(form: Form, lengths: &[usize], frames: &[u8], out: &mut [u8]) -> Result<usize, Fault> {
+    let total = check(form, lengths, frames, out.len())?;
+    gather(form.sizes()?, lengths, frames, &mut out[..total]);
+    Ok(total)
+}
+
+/// Where joining into so many bytes finds the first fault; 0 if the frames are joined.
+#[inline]
+pub fn fault(form: Form, lengths: &[usize], frames: &[u8], room: usize) -> usize {
+    check(form, lengths, frames, room).map_or_else(|fault| fault.at, |_| 0)
+}
+
+/// All that joining into so many bytes is refused for; answers the length of the message. What
+/// concerns all frames together (their sum, 4 and 5) is told of the end of the data.
+#[inline]
+fn check(form: Form, lengths: &[usize], frames: &[u8], room: usize) -> Result<usize, Fault> {
+    form.sizes()?;
     let sum = lengths
         .iter()
         .try_fold(0usize, |sum, &length| sum.checked_add(length));
     if lengths.is_empty() || sum != Some(frames.len()) {
-        return Err(Refusal::Malformed);
+        return Err(Refusal::Malformed.at(frames.len()));
     }
     let total = check_frames(form, lengths, frames)?;
     if total > LONGEST {
-        return Err(Refusal::MessageTooLong);
+        return Err(Refusal::MessageTooLong.at(frames.len()));
     }
-    let message = out.get_mut(..total).ok_or(Refusal::OutputTooShort)?;
-    gather(sizes, lengths, frames, message);
+    if total > room {
+        return Err(Refusal::OutputTooShort.at(frames.len()));
+    }
     Ok(total)
 }
 
 /// Reads every frame and holds it against the one before; answers the length of the message.
 #[inline]
-fn check_frames(form: Form, lengths: &[usize], frames: &[u8]) -> Result<usize, Refusal> {
+fn check_frames(form: Form, lengths: &[usize], frames: &[u8]) -> Result<usize, Fault> {
     let mut rest = frames;
     let mut total = 0;
     let mut due: Option<Run> = None;
     for (index, &length) in lengths.iter().enumerate() {
         let (frame, after) = rest.split_at(length);
-        rest = after;
-        let (packet, user) = frame::read(form, frame)?;
-        let Packet::Data { m, sn, ps, ch, .. } = packet else {
-            return Err(Refusal::FormatError);
-        };
         let last = index + 1 == lengths.len();
-        if !m && !last {
-            return Err(Refusal::FormatError);
-        }
-        if due.is_some_and(|due| due != Run { sn, ps, ch }) {
-            return Err(Refusal::RunBroken);
-        }
-        if m && last {
-            return Err(Refusal::Malformed);
-        }
-        due = Some(Run {
-            sn: link_next(sn),
-            ps: packet_next(ps),
-            ch,
-        });
-        total += user.len();
+        total += check_frame(form, frame, last, &mut due)
+            .map_err(|fault| fault.in_frame_at(frames.len() - rest.len()))?;
+        rest = after;
     }
     Ok(total)
+}
+
+/// Reads one frame and holds it against the one that is due; answers the length of its user data.
+/// What is wrong with a frame that reads is told of its first byte.
+#[inline]
+fn check_frame(
+    form: Form,
+    frame: &[u8],
+    last: bool,
+    due: &mut Option<Run>,
+) -> Result<usize, Fault> {
+    let (packet, user) = frame::read(form, frame)?;
+    let Packet::Data { m, sn, ps, ch, .. } = packet else {
+        return Err(Refusal::FormatError.at(0));
+    };
+    if !m && !last {
+        return Err(Refusal::FormatError.at(0));
+    }
+    if due.is_some_and(|due| due != Run { sn, ps, ch }) {
+        return Err(Refusal::RunBroken.at(0));
+    }
+    if m && last {
+        return Err(Refusal::Malformed.at(0));
+    }
+    *due = Some(Run {
+        sn: link_next(sn),
+        ps: packet_next(ps),
+        ch,
+    });
+    Ok(user.len())
 }
 
 /// Copies the user data of frames that have been checked.
@@ -283,7 +307,7 @@ mod tests {
         frames
     }
 
-    fn join_of(lengths: &[usize], frames: &[u8]) -> Result<usize, Refusal> {
+    fn join_of(lengths: &[usize], frames: &[u8]) -> Result<usize, Fault> {
         join(LONG, lengths, frames, &mut [0; 64])
     }
 
@@ -292,15 +316,18 @@ mod tests {
         let frames = three();
         assert_eq!(join_of(&[10; 3], &frames), Ok(0));
         let gap = [&frames[..10], &frames[20..]].concat();
-        assert_eq!(join_of(&[10; 2], &gap), Err(Refusal::RunBroken));
-        assert_eq!(join_of(&[10; 2], &frames[..20]), Err(Refusal::Malformed));
+        assert_eq!(join_of(&[10; 2], &gap), Err(Refusal::RunBroken.at(10)));
+        assert_eq!(
+            join_of(&[10; 2], &frames[..20]),
+            Err(Refusal::Malformed.at(10))
+        );
         assert_eq!(
             join_of(&[10, 10, 9], &frames[..29]),
-            Err(Refusal::Malformed)
+            Err(Refusal::Malformed.at(29))
         );
         let mut other = frames.clone();
         other[20..24].copy_from_slice(&[0x5C, 9, 0x32, 0x41]);
-        assert_eq!(join_of(&[10; 3], &other), Err(Refusal::FormatError));
+        assert_eq!(join_of(&[10; 3], &other), Err(Refusal::FormatError.at(20)));
         let mut pr = frames;
         pr[11] |= 5;
         assert_eq!(join_of(&[10; 3], &pr), Ok(0));
@@ -308,26 +335,29 @@ mod tests {
 
     #[test]
     fn joining_sums_truly() {
-        assert_eq!(join_of(&[], &[]), Err(Refusal::Malformed));
-        assert_eq!(join_of(&[], &three()), Err(Refusal::Malformed));
+        assert_eq!(join_of(&[], &[]), Err(Refusal::Malformed.at(0)));
+        assert_eq!(join_of(&[], &three()), Err(Refusal::Malformed.at(30)));
         assert_eq!(
             join_of(&[usize::MAX, 11], &three()[..10]),
-            Err(Refusal::Malformed)
+            Err(Refusal::Malformed.at(10))
         );
-        assert_eq!(join_of(&[10, 0, 10, 10], &three()), Err(Refusal::Malformed));
+        assert_eq!(
+            join_of(&[10, 0, 10, 10], &three()),
+            Err(Refusal::Malformed.at(10))
+        );
     }
 
     #[test]
     fn joining_order_within_and_between_frames() {
         let mut frames = three();
         frames[10] = 0x85; // M 0 and a wrong SN: M first
-        assert_eq!(join_of(&[10; 3], &frames), Err(Refusal::FormatError));
+        assert_eq!(join_of(&[10; 3], &frames), Err(Refusal::FormatError.at(10)));
         frames[10] = 0xC5; // a wrong SN beats the next frame's wrong padding
         frames[29] = 1;
-        assert_eq!(join_of(&[10; 3], &frames), Err(Refusal::RunBroken));
+        assert_eq!(join_of(&[10; 3], &frames), Err(Refusal::RunBroken.at(10)));
         let mut last = three();
         last[20] = 0xC5; // a wrong SN beats M 1 on the last
-        assert_eq!(join_of(&[10; 3], &last), Err(Refusal::RunBroken));
+        assert_eq!(join_of(&[10; 3], &last), Err(Refusal::RunBroken.at(20)));
     }
 
     #[test]
@@ -340,13 +370,13 @@ mod tests {
         let frames: Vec<u8> = (0..28).flat_map(|sn| frame(sn, (sn < 27).into())).collect();
         assert_eq!(
             join(LONG, &[160; 28], &frames, &mut []),
-            Err(Refusal::MessageTooLong)
+            Err(Refusal::MessageTooLong.at(4480))
         );
         let fewer: Vec<u8> = (0..27).flat_map(|sn| frame(sn, (sn < 26).into())).collect();
         let mut out = [3; 4022];
         assert_eq!(
             join(LONG, &[160; 27], &fewer, &mut out),
-            Err(Refusal::OutputTooShort)
+            Err(Refusal::OutputTooShort.at(4320))
         );
         assert_eq!(out, [3; 4022]);
     }

@@ -34,4 +34,41 @@ impl Refusal {
     pub fn clearing(self) -> Option<(u8, u8)> {
         (self == Refusal::NoInterrogator).then_some((141, 162))
     }
+
+    /// The refusal, with the position of the byte that it is given for.
+    #[inline]
+    pub fn at(self, at: usize) -> Fault {
+        Fault { refusal: self, at }
+    }
+}
+
+/// Why a frame was not read or a run of frames not joined, and where the first thing wrong is.
+#[derive(Clone, Copy, Debug, PartialEq, Eq)]
+pub struct Fault {
+    pub refusal: Refusal,
+    /// A position in the frame; in joining, in all of its data.
+    pub at: usize,
+}
+
+impl Fault {
+    /// The same fault, told of a frame that starts here among others.
+    #[inline]
+    pub fn in_frame_at(self, start: usize) -> Self {
+        self.refusal.at(start + self.at)
+    }
+}
+
+/// A refusal that no byte is to blame for has position 0: that of the form.
+impl From<Refusal> for Fault {
+    #[inline]
+    fn from(refusal: Refusal) -> Self {
+        refusal.at(0)
+    }
+}
+
+impl From<Fault> for Refusal {
+    #[inline]
+    fn from(fault: Fault) -> Self {
+        fault.refusal
+    }
 }

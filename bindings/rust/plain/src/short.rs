@@ -198,12 +198,15 @@ fn short_frames_byte_by_byte() {
         (&[0xC5, 0x32, 0x43, 0, 0, 0, 1], 3), // padding
         (&[0x5C, 0, 0, 0, 0, 0, 0, 0, 0, 0, 0, 0, 0, 0], 3),
     ] {
-        let refusal = frame::read(SHORT, frame).unwrap_err();
-        assert_eq!(refusal.number(), number, "{frame:x?}");
+        let fault = frame::read(SHORT, frame).unwrap_err();
+        assert_eq!(fault.refusal.number(), number, "{frame:x?}");
     }
     let mut five = vec![0; 35];
     five[..3].copy_from_slice(&[0x80, 0, 1]);
-    assert_eq!(frame::read(SHORT, &five), Err(Refusal::PacketTooLong));
+    assert_eq!(
+        frame::read(SHORT, &five),
+        Err(Refusal::PacketTooLong.at(28))
+    );
 }
 
 /// A good run of short frames of any size, by the layout, and the message that it carries.

@@ -4,9 +4,11 @@
 use pepperknoll::raw;
 use pepperknoll::{LinkNumber, PacketNumber};
 use plain::frame::{self, Form, Packet, PACKET_BYTES};
-use plain::{lent, Refusal};
+use plain::{lent, Fault, Refusal};
 
-use crate::support::{answer, by_number, safe_by_number, Call, Lent, Random, Trial};
+use crate::support::{
+    answer, by_number, by_place, safe_by_number, safe_by_place, Call, Lent, Random, Trial,
+};
 
 pub fn run(trial: &mut Trial) {
     several_refusals(trial);
@@ -22,14 +24,14 @@ pub fn run(trial: &mut Trial) {
 }
 
 /// The lists lent for a frame.
-struct Bed {
+pub struct Bed {
     packet: Lent<u8>,
     user: Lent<u8>,
     frame: Lent<u8>,
 }
 
 impl Bed {
-    fn new() -> Self {
+    pub fn new() -> Self {
         Bed {
             packet: Lent::new(),
             user: Lent::new(),
@@ -172,7 +174,7 @@ fn safe_packet(packet: Packet) -> pepperknoll::Packet {
 }
 
 /// Reads a frame with all three; gives the packet that the frame holds.
-fn check_read(trial: &mut Trial, bed: &mut Bed, form: u8, frame: &[u8]) -> Option<Packet> {
+pub fn check_read(trial: &mut Trial, bed: &mut Bed, form: u8, frame: &[u8]) -> Option<Packet> {
     let places = trial.random.places(PACKET_BYTES);
     let what = || format!("form {form}, {places} places, frame {frame:x?}");
     let mut packet = vec![DIRT; places];
@@ -191,14 +193,30 @@ fn check_read(trial: &mut Trial, bed: &mut Bed, form: u8, frame: &[u8]) -> Optio
     };
     trial.tally.saw(Call::FrameRead, got);
     assert_eq!(got, wanted, "{}", what());
+    check_fault(trial, form, &bed.frame);
     bed.packet.assert_holds(&packet, what);
     bed.frame.assert_holds(frame, what);
     // The safe call brings its own places, always enough.
     let safe = pepperknoll::read_frame(safe_form(form), frame);
-    let read = Form::from_number(form).and_then(|form| frame::read(form, frame));
+    let read = plain_read(form, frame);
     let wanted = read.map(|(packet, user)| (safe_packet(packet), user));
-    assert_eq!(safe_by_number(safe), by_number(wanted), "{}", what());
+    assert_eq!(safe_by_place(safe), by_place(wanted), "{}", what());
     read.ok().map(|(packet, _)| packet)
+}
+
+/// What `plain` says to a frame.
+pub fn plain_read(form: u8, frame: &[u8]) -> Result<(Packet, &[u8]), Fault> {
+    frame::read(Form::from_number(form)?, frame)
+}
+
+/// Asks library and `plain` where a frame is bad, with the list that was lent for reading it.
+pub fn check_fault(trial: &mut Trial, form: u8, frame: &Lent<u8>) {
+    // SAFETY: the list is lent with its own length.
+    let got = unsafe { raw::pk_frame_fault(form, frame.as_ptr(), frame.len()) };
+    let read = by_place(plain_read(form, frame.content()));
+    let (number, wanted) = read.err().unwrap_or((0, 0));
+    trial.tally.saw(Call::FrameFault, number.into());
+    assert_eq!(got, wanted, "form {form}, frame {:x?}", frame.content());
 }
 
 /// A form's number: mostly one that is a form.
@@ -603,24 +621,24 @@ fn reading_several_refusals(trial: &mut Trial, bed: &mut Bed) {
     two_segments[0] = 0x5C;
     let mut short = vec![0; 35]; // too long for the short form
     short[..3].copy_from_slice(&[0x80, 0, 1]);
-    let cases: [(u8, &[u8], u8); 13] = [
-        (18, &[], 1),
-        (255, &[], 1),
-        (17, &[], 2),
-        (17, &[0xFF; 11], 2),
-        (17, &[0x01; 20], 3),
-        (1, &long_and_wrong, 3),
-        (1, &long, 13),
-        (1, &two_segments, 3),
-        (SHORT, &[], 2),
-        (SHORT, &[0xFF; 10], 2),
-        (SHORT, &[0x01; 35], 3),
-        (SHORT, &two_segments[..14], 3),
-        (SHORT, &short, 13),
+    let cases: [(u8, &[u8], u8, usize); 13] = [
+        (18, &[], 1, 0),
+        (255, &[], 1, 0),
+        (17, &[], 2, 0),
+        (17, &[0xFF; 11], 2, 11),
+        (17, &[0x01; 20], 3, 0),
+        (1, &long_and_wrong, 3, 19),
+        (1, &long, 13, 10),
+        (1, &two_segments, 3, 10),
+        (SHORT, &[], 2, 0),
+        (SHORT, &[0xFF; 10], 2, 10),
+        (SHORT, &[0x01; 35], 3, 0),
+        (SHORT, &two_segments[..14], 3, 7),
+        (SHORT, &short, 13, 28),
     ];
-    for (form, frame, number) in cases {
-        let wanted = Form::from_number(form).and_then(|form| frame::read(form, frame));
-        assert_eq!(wanted.unwrap_err().number(), number, "{frame:x?}");
+    for (form, frame, number, at) in cases {
+        let wanted = by_place(plain_read(form, frame));
+        assert_eq!(wanted, Err((number, at)), "{frame:x?}");
         check_read(trial, bed, form, frame);
     }
 }

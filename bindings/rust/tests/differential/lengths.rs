@@ -6,6 +6,7 @@
 use pepperknoll::raw;
 use plain::lent;
 
+use crate::frames::check_fault;
 use crate::support::{Call, Lent, Trial};
 
 pub fn run(trial: &mut Trial) {
@@ -352,6 +353,11 @@ fn raw_read(form: u8, frame: &Lent<u8>, packet: &mut Lent<u8>) -> u64 {
     unsafe { raw::pk_frame_read(form, f, fl, packet.as_mut_ptr(), packet.len()) }
 }
 
+fn raw_fault(form: u8, frame: &Lent<u8>) -> usize {
+    // SAFETY: the list is lent with its own length.
+    unsafe { raw::pk_frame_fault(form, frame.as_ptr(), frame.len()) }
+}
+
 /// The forms, and numbers that are none.
 const FORMS: [u8; 8] = [0, 1, 2, 16, 17, 18, 19, 255];
 
@@ -408,6 +414,7 @@ fn read(trial: &mut Trial, places: usize) {
             let what = || format!("form {form}, {places} places, frame {frame_before:x?}");
             let wanted = lent::frame_read(form, &frame_before, &mut packet);
             assert_eq!(got, wanted, "{}", what());
+            check_fault(trial, form, &frame);
             lent_packet.assert_holds(&packet, what);
             frame.assert_holds(&frame_before, what);
         }
@@ -418,29 +425,26 @@ fn read(trial: &mut Trial, places: usize) {
 fn orders_of_frames() {
     let frames = some_frames();
     let (short, good, long, wrong) = (&frames[1], &frames[3], &frames[4], &frames[5]);
-    for (form, frame, places, number) in [
-        (18, &vec![], 9, 1),
-        (255, good, 9, 1),
-        (17, &vec![], 9, 2),
-        (17, &vec![0xFF; 11], 0, 2),
-        (17, wrong, 9, 3),
-        (1, long, 9, 13),
-        (1, long, 10, 13),
-        (17, good, 9, 5),
-        (17, good, 0, 5),
-        (0, good, 9, 2), // no whole number of short segments
-        (0, short, 9, 5),
+    for (form, frame, places, number, at) in [
+        (18, &vec![], 9, 1, 0),
+        (255, good, 9, 1, 0),
+        (17, &vec![], 9, 2, 0),
+        (17, &vec![0xFF; 11], 0, 2, 11),
+        (17, wrong, 9, 3, 2),
+        (1, long, 9, 13, 10),
+        (1, long, 10, 13, 10),
+        (17, good, 9, 5, 0), // no position knows of the places
+        (17, good, 0, 5, 0),
+        (0, good, 9, 2, 10), // no whole number of short segments
+        (0, short, 9, 5, 0),
     ] {
         let dirt = vec![0xEE; places];
-        let mut packet = Lent::of(&dirt);
+        let (lent, mut packet) = (Lent::of(frame), Lent::of(&dirt));
         let what = || format!("form {form}, {places} places, frame {frame:x?}");
-        assert_eq!(
-            raw_read(form, &Lent::of(frame), &mut packet),
-            number,
-            "{}",
-            what()
-        );
+        assert_eq!(raw_read(form, &lent, &mut packet), number, "{}", what());
+        assert_eq!(raw_fault(form, &lent), at, "{}", what());
         packet.assert_holds(&dirt, what);
+        lent.assert_holds(frame, what);
     }
     for places in [10, 11, 20, 200] {
         let mut packet = Lent::of(&vec![0xEE; places]);

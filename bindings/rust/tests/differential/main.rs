@@ -4,6 +4,7 @@
 //! `PEPPERKNOLL_SEED=n` sets the seed, `PEPPERKNOLL_LONG=1` the long setting.
 
 mod choice;
+mod faults;
 mod frames;
 mod lengths;
 mod messages;
@@ -28,6 +29,11 @@ fn resequencer() {
 #[test]
 fn frames() {
     subject("frames", frames::run);
+}
+
+#[test]
+fn faults() {
+    subject("faults", faults::run);
 }
 
 #[test]

@@ -6,10 +6,12 @@ use pepperknoll::{raw, LinkNumber, PacketNumber};
 use plain::frame::{self, Form, Packet};
 use plain::message::{self, Cut, Start};
 use plain::packed;
-use plain::Refusal;
+use plain::{lent, Fault, Refusal};
 
 use crate::frames::{safe_form, some_form, SHORT};
-use crate::support::{answer, by_number, safe_by_number, Call, Lent, Random, Trial};
+use crate::support::{
+    answer, by_number, by_place, safe_by_number, safe_by_place, Call, Lent, Random, Trial,
+};
 
 pub fn run(trial: &mut Trial) {
     several_refusals(trial);
@@ -24,14 +26,14 @@ const DIRT: u8 = 0xEE;
 const LENGTH_DIRT: usize = 0x7777;
 
 /// The lists lent for a message.
-struct Bed {
+pub struct Bed {
     message: Lent<u8>,
     frames: Lent<u8>,
     lengths: Lent<usize>,
 }
 
 impl Bed {
-    fn new() -> Self {
+    pub fn new() -> Self {
         Bed {
             message: Lent::new(),
             frames: Lent::new(),
@@ -152,22 +154,26 @@ impl Cutting {
 }
 
 #[derive(Clone, Debug)]
-struct Joining {
-    form: u8,
-    lengths: Vec<usize>,
-    frames: Vec<u8>,
-    room: usize,
+pub struct Joining {
+    pub form: u8,
+    pub lengths: Vec<usize>,
+    pub frames: Vec<u8>,
+    pub room: usize,
 }
 
 impl Joining {
-    /// Joins with all three; gives the message if there is one.
-    fn check(&self, trial: &mut Trial, bed: &mut Bed) -> Result<Vec<u8>, Refusal> {
+    fn plain(&self, out: &mut [u8]) -> Result<usize, Fault> {
+        let form = Form::from_number(self.form)?;
+        message::join(form, &self.lengths, &self.frames, out)
+    }
+
+    /// Joins with all three; gives the message if there is one, else where the frames are bad.
+    pub fn check(&self, trial: &mut Trial, bed: &mut Bed) -> Result<Vec<u8>, Fault> {
         let mut out = vec![DIRT; self.room];
         bed.message.lend(&out);
         bed.lengths.lend(&self.lengths);
         bed.frames.lend(&self.frames);
-        let wanted = Form::from_number(self.form)
-            .and_then(|form| message::join(form, &self.lengths, &self.frames, &mut out));
+        let wanted = self.plain(&mut out);
         // SAFETY: three lists apart, each lent with its own length.
         let got = unsafe {
             raw::pk_message_join(
@@ -181,7 +187,9 @@ impl Joining {
             )
         };
         trial.tally.saw(Call::MessageJoin, got);
-        assert_eq!(got, answer(&wanted, |&length| length as u64), "{self:x?}");
+        let packed = answer(&wanted.map_err(Refusal::from), |&length| length as u64);
+        assert_eq!(got, packed, "{self:x?}");
+        self.check_fault(trial, bed, got);
         let what = || format!("{self:x?}");
         bed.message.assert_holds(&out, what);
         bed.lengths.assert_holds(&self.lengths, what);
@@ -191,15 +199,34 @@ impl Joining {
         Ok(out)
     }
 
-    fn check_safe(&self, wanted: Result<usize, Refusal>, wanted_out: &[u8]) {
+    /// Asks library and `plain` where the frames are bad, with the lists that were lent for joining
+    /// them; the answer of that is given.
+    fn check_fault(&self, trial: &mut Trial, bed: &Bed, answer: u64) {
+        // SAFETY: two lists, each lent with its own length.
+        let got = unsafe {
+            raw::pk_message_fault(
+                self.form,
+                bed.lengths.as_ptr(),
+                bed.lengths.len(),
+                bed.frames.as_ptr(),
+                bed.frames.len(),
+                self.room,
+            )
+        };
+        trial.tally.saw(Call::MessageFault, answer);
+        let wanted = lent::message_fault(self.form, &self.lengths, &self.frames, self.room);
+        assert_eq!(got, wanted, "{self:x?}");
+    }
+
+    fn check_safe(&self, wanted: Result<usize, Fault>, wanted_out: &[u8]) {
         let (form, mut out) = (safe_form(self.form), vec![DIRT; self.room]);
         let safe = pepperknoll::join(form, &self.lengths, &self.frames, &mut out);
-        assert_eq!(safe_by_number(safe), by_number(wanted), "{self:x?}");
+        assert_eq!(safe_by_place(safe), by_place(wanted), "{self:x?}");
         assert_eq!(out, wanted_out, "{self:x?}");
     }
 
     /// Where a frame starts, as far as the lengths are true.
-    fn start_of(&self, frame: usize) -> usize {
+    pub fn start_of(&self, frame: usize) -> usize {
         let sum = self.lengths[..frame]
             .iter()
             .fold(0, |sum: usize, &l| sum.saturating_add(l));
@@ -419,11 +446,11 @@ fn every_form(trial: &mut Trial) {
             frames: vec![0x80, 0, 3, 0, 0, 0, 0, 0, 0, 0],
             room: 0,
         });
-        let back = by_number(frames.check(trial, &mut bed));
+        let back = by_place(frames.check(trial, &mut bed));
         let wanted = if form <= 17 {
             Ok(cutting.message)
         } else {
-            Err(1)
+            Err((1, 0))
         };
         assert_eq!(back, wanted, "form {form}");
     }
@@ -461,7 +488,7 @@ fn every_length(trial: &mut Trial) {
 }
 
 /// Frames in a good run by the layout, each of any size, M as given to each.
-fn run_of_frames(random: &mut Random, form: u8, count: usize, most: usize) -> Joining {
+pub fn run_of_frames(random: &mut Random, form: u8, count: usize, most: usize) -> Joining {
     let plain_form = Form::from_number(form).expect("a form");
     let largest = plain_form.sizes().expect("a form").largest;
     let Start { sn, ps, pr, ch } = some_start(random);
@@ -526,16 +553,21 @@ fn frames_of_any_size(trial: &mut Trial) {
 fn at_the_longest(trial: &mut Trial, bed: &mut Bed, form: u8, share: usize) {
     for total in 4094..=4098 {
         let mut joining = run_that_carries(&mut trial.random, form, share, total);
-        let wanted = if total > 4096 { Err(4) } else { Ok(total) };
+        let end = joining.frames.len();
+        let wanted = if total > 4096 {
+            Err((4, end))
+        } else {
+            Ok(total)
+        };
         for room in [total, total - 1, 0] {
             joining.room = room;
             let got = joining.check(trial, bed).map(|message| message.len());
             let wanted = if room < total {
-                wanted.and(Err(5))
+                wanted.and(Err((5, end)))
             } else {
                 wanted
             };
-            assert_eq!(by_number(got), wanted);
+            assert_eq!(by_place(got), wanted);
         }
     }
 }
@@ -665,55 +697,50 @@ fn short(changes: &[(usize, u8)]) -> Vec<u8> {
     frames
 }
 
-/// A form, lengths, frames and room, and the number with which joining refuses them.
-type Refused = (u8, Vec<usize>, Vec<u8>, usize, u8);
+/// A form, lengths, frames and room, and the number with which joining refuses them, and where.
+type Refused = (u8, Vec<usize>, Vec<u8>, usize, (u8, usize));
 
 /// Runs in the short form: joining refuses them as it does those in a long one.
 fn short_cases() -> [Refused; 6] {
     [
-        (SHORT, vec![7; 2], short(&[]), 1, 5),
-        (SHORT, vec![7; 2], short(&[(0, 0xBF)]), 0, 3), // M 0 before the last
-        (SHORT, vec![7; 2], short(&[(7, 0x81)]), 0, 17),
-        (SHORT, vec![7; 2], short(&[(7, 0xC0)]), 0, 2), // M 1 on the last
-        (SHORT, vec![7; 2], short(&[(13, 1)]), 0, 3),   // padding
-        (SHORT, vec![10, 4], short(&[]), 0, 2),
+        (SHORT, vec![7; 2], short(&[]), 1, (5, 14)),
+        (SHORT, vec![7; 2], short(&[(0, 0xBF)]), 0, (3, 0)), // M 0 before the last
+        (SHORT, vec![7; 2], short(&[(7, 0x81)]), 0, (17, 7)),
+        (SHORT, vec![7; 2], short(&[(7, 0xC0)]), 0, (2, 7)), // M 1 on the last
+        (SHORT, vec![7; 2], short(&[(13, 1)]), 0, (3, 13)),  // padding
+        (SHORT, vec![10, 4], short(&[]), 0, (2, 10)),
     ]
 }
 
 fn joining_several_refusals(trial: &mut Trial, bed: &mut Bed) {
     let tens = vec![10; 3];
+    let not_data = three(&[(20, 0x5C), (21, 0), (22, 0)]);
     let cases = [
-        (18, vec![], vec![], 0, 1),
-        (255, vec![], vec![], 0, 1),
-        (17, vec![], vec![], 0, 2),
-        (17, vec![], three(&[]), 0, 2),
-        (17, vec![usize::MAX, 31], three(&[]), 3, 2),
-        (17, vec![10; 4], three(&[(0, 0)]), 0, 2), // the sum before the first frame's 3
-        (17, vec![10, 0, 20], three(&[(0, 0)]), 0, 3), // frame 0's 3 before frame 1's 2
-        (17, vec![10, 0, 20], three(&[]), 0, 2),
-        (17, tens.clone(), three(&[(10, 0x85)]), 0, 3), // M before the run
-        (17, tens.clone(), three(&[(10, 0xC5), (29, 1)]), 0, 17), // frame 1's 17, frame 2's 3
-        (17, tens.clone(), three(&[(20, 0xC5)]), 0, 17), // the run before the last M
-        (17, tens.clone(), three(&[(20, 0xC1)]), 0, 2), // the last M before no room
-        (
-            17,
-            tens.clone(),
-            three(&[(20, 0x5C), (21, 0), (22, 0)]),
-            0,
-            3,
-        ), // not DATA
-        (17, tens.clone(), three(&[]), 2, 5),
-        (1, vec![20, 10], three(&[(10, 0)]), 0, 13), // too long before no room
-        (SHORT, tens, three(&[(0, 0)]), 0, 2),       // no whole segments before first bits
+        (18, vec![], vec![], 0, (1, 0)),
+        (255, vec![], vec![], 0, (1, 0)),
+        (17, vec![], vec![], 0, (2, 0)),
+        (17, vec![], three(&[]), 0, (2, 30)),
+        (17, vec![usize::MAX, 31], three(&[]), 3, (2, 30)),
+        (17, vec![10; 4], three(&[(0, 0)]), 0, (2, 30)), // the sum before the first frame's 3
+        (17, vec![10, 0, 20], three(&[(0, 0)]), 0, (3, 0)), // frame 0's 3 before frame 1's 2
+        (17, vec![10, 0, 20], three(&[]), 0, (2, 10)),
+        (17, tens.clone(), three(&[(10, 0x85)]), 0, (3, 10)), // M before the run
+        (17, tens.clone(), three(&[(10, 0xC5), (29, 1)]), 0, (17, 10)), // before frame 2's 3
+        (17, tens.clone(), three(&[(20, 0xC5)]), 0, (17, 20)), // the run before the last M
+        (17, tens.clone(), three(&[(20, 0xC1)]), 0, (2, 20)), // the last M before no room
+        (17, tens.clone(), not_data, 0, (3, 20)),
+        (17, tens.clone(), three(&[]), 2, (5, 30)),
+        (1, vec![20, 10], three(&[(10, 0)]), 0, (13, 10)), // too long before no room
+        (SHORT, tens, three(&[(0, 0)]), 0, (2, 10)),       // no whole segments before first bits
     ];
-    for (form, lengths, frames, room, number) in cases.into_iter().chain(short_cases()) {
+    for (form, lengths, frames, room, refused) in cases.into_iter().chain(short_cases()) {
         let joining = Joining {
             form,
             lengths,
             frames,
             room,
         };
-        let refusal = joining.check(trial, bed).unwrap_err();
-        assert_eq!(refusal.number(), number, "{joining:x?}");
+        let got = by_place(joining.check(trial, bed));
+        assert_eq!(got, Err(refused), "{joining:x?}");
     }
 }

@@ -41,9 +41,11 @@ pub fn make(name: &[u8], words: Words<'_>) -> Result<Printed, Reason> {
 
         b"pk_frame_write" => frame_write(words),
         b"pk_frame_read" => frame_read(words),
+        b"pk_frame_fault" => frame_fault(words),
 
         b"pk_message_cut" => message_cut(words),
         b"pk_message_join" => message_join(words),
+        b"pk_message_fault" => message_fault(words),
 
         b"pk_table_empty" => on_state(words, lent::table_empty),
         b"pk_table_codes" => at_address(words, lent::table_codes),
@@ -107,6 +109,11 @@ fn frame_read(words: Words<'_>) -> Result<Printed, Reason> {
     Ok(Printed::answer(answer, U64).list(&packet))
 }
 
+fn frame_fault(words: Words<'_>) -> Result<Printed, Reason> {
+    let (form, frame): (u8, Bytes) = words.arguments()?;
+    Ok(Printed::position(lent::frame_fault(form, &frame)))
+}
+
 fn message_cut(words: Words<'_>) -> Result<Printed, Reason> {
     type Arguments = (u8, u8, u8, u8, u8, Bytes, Bytes, Lengths);
     let (form, sn, ps, pr, ch, message, mut out, mut lengths): Arguments = words.arguments()?;
@@ -119,6 +126,13 @@ fn message_join(words: Words<'_>) -> Result<Printed, Reason> {
     let (form, lengths, frames, mut out): (u8, Lengths, Bytes, Bytes) = words.arguments()?;
     let answer = lent::message_join(form, &lengths, &frames, &mut out);
     Ok(Printed::answer(answer, U64).list(&out))
+}
+
+/// The output is not lent: its length is a number.
+fn message_fault(words: Words<'_>) -> Result<Printed, Reason> {
+    let (form, lengths, frames, out_len): (u8, Lengths, Bytes, usize) = words.arguments()?;
+    let at = lent::message_fault(form, &lengths, &frames, out_len);
+    Ok(Printed::position(at))
 }
 
 /// A question about one address of a table.

@@ -78,6 +78,13 @@ impl Argument for u16 {
     }
 }
 
+/// A length that stands alone: no list is longer than what two bytes hold.
+impl Argument for usize {
+    fn read(word: &[u8]) -> Result<Self, &'static str> {
+        number::<u16>(word).map(usize::from)
+    }
+}
+
 fn number<T: TryFrom<usize>>(word: &[u8]) -> Result<T, &'static str> {
     let value = decimal(word).ok_or("not a number")?;
     T::try_from(value).map_err(|_| "number too large")
@@ -169,6 +176,11 @@ impl Printed {
     /// The answer in so many hex digits.
     pub fn answer(answer: u64, digits: usize) -> Self {
         Printed(format!("{answer:0digits$X}"))
+    }
+
+    /// A position, which is no answer with a refusal number: `at` and the decimal number.
+    pub fn position(at: usize) -> Self {
+        Printed(format!("at {at}"))
     }
 
     /// One more list.

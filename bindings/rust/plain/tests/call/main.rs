@@ -94,10 +94,24 @@ fn is_line_end(byte: &u8) -> bool {
 fn declared() -> Vec<String> {
     let header = String::from_utf8(read("bindings/c/pepperknoll.h")).expect("the header is text");
     let name = |line: &str| {
-        let declaration = line.strip_prefix("uint")?.split_once('(')?.0;
-        Some(declaration.split_once(' ')?.1.to_string())
+        let (answer, call) = line.split_once('(')?.0.split_once(' ')?;
+        let declared = answer.starts_with("uint") || answer == "size_t";
+        declared.then(|| call.to_string())
     };
     header.lines().filter_map(name).collect()
+}
+
+#[test]
+fn calls_are_found_by_what_they_answer() {
+    let declared = declared();
+    for name in [
+        "pk_link_next",
+        "pk_choose",
+        "pk_frame_read",
+        "pk_frame_fault",
+    ] {
+        assert!(declared.iter().any(|call| call == name), "{name}");
+    }
 }
 
 #[test]
@@ -121,7 +135,8 @@ fn the_cases_make_every_call_and_meet_every_refusal() {
 
 /// Whether the last two digits of a call's answer are a refusal number.
 fn has_refusals(name: &str) -> bool {
-    !name.starts_with("pk_link_") && !name.starts_with("pk_packet_")
+    let on_numbers = name.starts_with("pk_link_") || name.starts_with("pk_packet_");
+    !on_numbers && !name.ends_with("_fault")
 }
 
 fn refusal_number(printed: &[u8]) -> u8 {
@@ -142,6 +157,49 @@ fn the_example_of_the_description() {
     let (lines, printed) = example.split_at(3);
     let wanted = String::from_utf8(report(lines.join("\n").as_bytes())).unwrap();
     assert_eq!(wanted.lines().collect::<Vec<_>>(), printed);
+}
+
+/// Lines of the two calls that answer a position, and what is printed for each.
+#[test]
+fn positions() {
+    for (line, wanted) in [
+        ("pk_frame_fault 17 8000030000,00*5", "at 0"),
+        ("pk_frame_fault 17 800002,00*7", "at 2"),
+        ("pk_frame_fault 17 5809324,18DA206000000", "not a list"),
+        ("pk_frame_fault 17 580932418DA206,00*3", "at 6"),
+        ("pk_frame_fault 17 5C093241,00*16", "at 10"),
+        ("pk_frame_fault 0 -", "at 0"),
+        ("pk_frame_fault 17 FF*161", "at 161"),
+        ("pk_frame_fault 17 80000A,FF*157", "at 152"),
+        ("pk_frame_fault 18 -", "at 0"),
+        ("pk_frame_fault 256 -", "number too large"),
+        ("pk_frame_fault 17", "missing"),
+        ("pk_frame_fault 17 - -", "too many arguments"),
+        ("pk_message_fault 17 - - 0", "at 0"),
+        ("pk_message_fault 17 - 00*7 0", "at 7"),
+        ("pk_message_fault 17 0000000A 800004,00*7 1", "at 0"),
+        ("pk_message_fault 17 0000000A 800004,00*7 0", "at 10"),
+        ("pk_message_fault 17 0000000A C00004,00*7 65535", "at 0"),
+        (
+            "pk_message_fault 17 0000000A*2 C00003,00*7,811003,00*6,01 0",
+            "at 19",
+        ),
+        (
+            "pk_message_fault 17 0000000A*2 C00003,00*7,811003,00*7 0",
+            "at 0",
+        ),
+        (
+            "pk_message_fault 17 0000000A*2 C00003,00*7,821003,00*7 00000",
+            "at 10",
+        ),
+        ("pk_message_fault 17 - - 100000", "not a number"),
+        ("pk_message_fault 17 - - -", "not a number"),
+    ] {
+        match printed(line.as_bytes()) {
+            Ok(printed) => assert_eq!(printed, wanted.as_bytes(), "{line}"),
+            Err(reason) => assert!(reason.ends_with(wanted), "{line}: {reason}"),
+        }
+    }
 }
 
 #[test]

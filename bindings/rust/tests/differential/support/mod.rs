@@ -78,3 +78,13 @@ pub fn by_number<T>(result: Result<T, plain::Refusal>) -> Result<T, u8> {
 pub fn safe_by_number<T>(result: Result<T, pepperknoll::Refusal>) -> Result<T, u8> {
     result.map_err(pepperknoll::Refusal::number)
 }
+
+/// The same of reading and joining: the refusal's number, and the position beside it.
+pub fn by_place<T>(result: Result<T, plain::Fault>) -> Result<T, (u8, usize)> {
+    result.map_err(|fault| (fault.refusal.number(), fault.at))
+}
+
+/// The same of the safe calls that read and join.
+pub fn safe_by_place<T>(result: Result<T, pepperknoll::Refused>) -> Result<T, (u8, usize)> {
+    result.map_err(|refused| (refused.why.number(), refused.at))
+}

@@ -7,7 +7,9 @@ use super::say;
 
 /// One call: the subject that tries it, the numbers it has to answer there, and those it has to
 /// answer where lists of other lengths are lent. 0 is done. It may answer no other number: 23
-/// belongs to writing and cutting, and would be a fault in reading and joining.
+/// belongs to writing and cutting, and would be a fault in reading and joining. A call that gives a
+/// position answers no number: it is counted by the number of the read or joining that it was asked
+/// beside.
 struct Row {
     name: &'static str,
     home: &'static str,
@@ -49,8 +51,10 @@ calls! {
     ResequencerClockEnd "pk_resequencer_clock_end" "resequencer" [0, 14, 1, 5, 7], [0, 14, 1, 5, 7];
     FrameWrite "pk_frame_write" "frames" [0, 1, 23, 13, 5], [1, 23];
     FrameRead "pk_frame_read" "frames" [0, 1, 2, 3, 13, 5], [0, 1, 2, 3, 13, 5];
+    FrameFault "pk_frame_fault" "frames" [0, 1, 2, 3, 13], [0, 1, 2, 3, 13];
     MessageCut "pk_message_cut" "messages" [0, 1, 23, 4, 5], [];
     MessageJoin "pk_message_join" "messages" [0, 1, 2, 3, 13, 17, 4, 5], [];
+    MessageFault "pk_message_fault" "messages" [0, 1, 2, 3, 13, 17, 4, 5], [];
     TableEmpty "pk_table_empty" "routes" [0], [14];
     TableCodes "pk_table_codes" "routes" [0], [14];
     TableCount "pk_table_count" "routes" [0], [14];
@@ -61,7 +65,7 @@ calls! {
 
 /// The subject that lends lists of other lengths.
 const LENGTHS: &str = "lengths";
-const SUBJECTS: usize = 8;
+const SUBJECTS: usize = 9;
 /// 23 is the largest refusal; 18 to 22 belong to calls that the header does not have.
 const NUMBERS: usize = 24;
 
@@ -94,6 +98,15 @@ impl Tally {
             ROWS[call as usize].name
         );
         self.counts[call as usize][number] += 1;
+    }
+
+    /// How often a call was seen with one of these numbers.
+    pub fn count(&self, call: Call, numbers: &[u8]) -> u64 {
+        let counts = &self.counts[call as usize];
+        numbers
+            .iter()
+            .map(|&number| counts[usize::from(number)])
+            .sum()
     }
 
     /// Adds to what the other subjects saw, prints the table after the last of them, and fails
@@ -143,7 +156,7 @@ impl Tally {
 
 /// The table of all calls and numbers; a number that was never answered is left out.
 fn table(counts: &Counts) -> String {
-    let mut text = String::from("\nanswers by number (0 done)\n");
+    let mut text = String::from("\nanswers by number (0 done), positions by that beside them\n");
     for (row, counts) in ROWS.iter().zip(counts) {
         write!(text, "{:26}", row.name).unwrap();
         for (number, count) in counts.iter().enumerate().filter(|(_, &count)| count > 0) {
@@ -152,7 +165,8 @@ fn table(counts: &Counts) -> String {
         text.push('\n');
     }
     let mut sums = [0; NUMBERS];
-    for counts in counts {
+    let refusing = ROWS.iter().zip(counts).filter(|(row, _)| !is_position(row));
+    for (_, counts) in refusing {
         sums.iter_mut()
             .zip(counts)
             .for_each(|(sum, count)| *sum += count);
@@ -162,6 +176,11 @@ fn table(counts: &Counts) -> String {
         write!(text, " {number}:{}", sums[number]).unwrap();
     }
     text + "\n"
+}
+
+/// Whether the call gives a position and so no number of its own.
+fn is_position(row: &Row) -> bool {
+    row.name.ends_with("_fault")
 }
 
 /// Whether any call may answer this number.

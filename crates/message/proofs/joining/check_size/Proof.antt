@@ -18,7 +18,7 @@ returns-3 : tie.Need-returns-3
 returns-3 c = simp (c .before .before .judged .given .1, lt-leb _ 4096 (c .if1 .left))
 
 returns-4 : tie.Need-returns-4
-returns-4 c = sym (ap (λ (j : Joined). sized j (c .before .before .before .args .room)) (c .before .judged2 .given .1))
+returns-4 c = sym (ap (λ (j : Joined). sized j (c .before .before .before .args .room) (c .before .before .before .args .all)) (c .before .judged2 .given .1))
 
 pub check-size-spec : {M : Type 1} → statement M
 check-size-spec = tie.close (tie.spec (λ c. search needs) (λ c. search needs) returns returns-2 returns-3 returns-4)

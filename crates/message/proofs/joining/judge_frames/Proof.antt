@@ -6,7 +6,7 @@ use native.Mathlib.Omega.{arith}
 use lib.ListN.{length, getD}
 use borrow.Author.Needs.{needs}
 use Rattle.message.proofs.Places.{frame-in}
-use Rattle.message.proofs.Judging.{Judging, starts, stops, turns, ends}
+use Rattle.message.proofs.Judging.{Judging, starts, stops-inside, stops, turns, ends}
 use Rattle.message.proofs.joining.judge_frames.Statement.{statement}
 use Rattle.message.proofs.joining.judge_frames.Tie as tie
 
@@ -46,13 +46,22 @@ on c =
 add-total : tie.Need-add-total Inv-loop μ-loop
 add-total c = omega (arith, on c .least, on c .at .place)
 
+add-t22 : tie.Need-add-t22 Inv-loop μ-loop
+add-t22 c =
+    let f = c .before .before .before in
+    let l = head f .loop in
+    let a = start (head f) .args in
+    let inside = stops-inside (a .form) (a .lengths .now) (a .frames .now) (l .before) (l .total) (l .p) (l .i) (l .inv) (f .before .before .before .loop-test .taken)
+    (f .judge-frame .result) (f .judge-frame .ensures) (c .before .turn2 .given .0 .0) (c .before .turn2 .given .0 .1 .0) (c .before .turn2 .given .1) in
+    omega (arith, inside)
+
 returns : tie.Need-returns Inv-loop μ-loop
 returns c =
     let f = c .before .before .before in
     let l = head f .loop in
     let a = start (head f) .args in
     stops (a .form) (a .lengths .now) (a .frames .now) (l .before) (l .total) (l .p) (l .i) (l .inv) (f .before .before .before .loop-test .taken)
-    (f .judge-frame .result) (f .judge-frame .ensures) (c .before .turn2 .given .0 .0) (c .before .turn2 .given .1)
+    (f .judge-frame .result) (f .judge-frame .ensures) (c .before .turn2 .given .0 .0) (c .before .turn2 .given .0 .1 .0) (c .before .turn2 .given .1)
 
 loop-again : tie.Need-loop-again Inv-loop μ-loop
 loop-again c = on c
@@ -81,6 +90,7 @@ judge-frames-spec =
     (λ c. search needs)
     add-total
     (λ c. search needs)
+    add-t22
     returns
     (λ c. search needs)
     (λ c. search needs)

@@ -2,12 +2,12 @@
 -- without that of the flag M, which always holds.
 -- Assumes nothing.
 use mathlib.Core.Bool.{and-assoc, and-true}
-use Rattle.frame.specs.Writing.{fits}
+use Rattle.frame_writer.specs.Writing.{valuesFit}
 use Rattle.message.proofs.cutting.Start.fits.Statement.{statement}
 use Rattle.message.proofs.cutting.Start.fits.Tie as tie
 
 returns : tie.Need-returns
-unfolding fits
+unfolding valuesFit
 returns c = simp (and-assoc, and-true)
 
 pub fits-spec : {M : Type 1} → statement M

@@ -1,0 +1,4 @@
+-- What is proved of the kinds.
+
+pub mod Table
+pub mod Stored

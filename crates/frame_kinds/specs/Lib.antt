@@ -1,0 +1,2 @@
+-- The kinds of packets and their layouts.
+pub mod Kinds
