@@ -2,8 +2,8 @@
 // frames").
 ghost use mathlib.Core.Path.{_≡_};
 ghost use Prim.Native.Nat.{_≤_};
-ghost use Rattle.frame_form.specs.Forms.{longSegment, segOf, mostOf, formValid, isLong, formAt, formNumber, formCode};
-ghost use Rattle.frame_form.specs.Segments.{padding, wholeSegments};
+ghost use Rattle.frame_form.specs.Forms.{segOf, mostOf, formValid, isLong, formAt, formNumber, formCode};
+ghost use Rattle.frame_form.specs.Segments.{wholeSegments};
 
 // The form of a frame: it gives the size of a segment and the size of the largest packet.
 pub enum Form {
@@ -95,15 +95,6 @@ impl Form {
             Form::LongUplink => 152,
             Form::LongDownlink(n) => 10 * n as usize,
         }
-    }
-
-    // The number of zero bytes that fill `n` bytes up to whole segments of a long form; for
-    // `message`, which cuts in the long forms only.
-    pub fn long_padding(n: usize) -> usize
-        ensures { λ r. ⌜ r ≡ padding longSegment n ⌝ }
-        ensures few { λ r. ⌜ r ≤ 9 ⌝ }
-    {
-        (10 - n % 10) % 10
     }
 }
 

@@ -436,6 +436,8 @@ fn fault_whole(form: u8, frame: &[u8]) -> usize
 pub fn fault(form: u8, frame: &[u8]) -> usize
     ensures { λ r. ⌜ r ≡ faultAnswer form (now (frame .entry)) ⌝ }
 {
+    // a part of itself, as in `read`
+    let frame = &frame[..];
     if frame_form::is_form(form) {
         if frame_form::is_whole_at(form, frame.len()) {
             return fault_whole(form, frame);

@@ -114,14 +114,16 @@ fn full_frames(share: usize, n: usize) -> usize
     (n - 1) / share
 }
 
-// The length of a DATA frame with `n` bytes of user data, padding included, in a long form.
+// The length of a DATA frame with `n` bytes of user data, in a long form: header and user data,
+// rounded up to whole segments. `frame_writer` divides the same sum by 10, and a compiler makes one
+// division of both.
 fn frame_length(n: usize) -> usize
     requires { ⌜ n ≤ 4096 ⌝ }
     ensures { λ r. ⌜ r ≡ frameLength longSegment (3 + n) ⌝ }
     ensures few { λ r. ⌜ r ≤ 4108 ⌝ }
 {
     let packet = 3 + n;
-    packet + Form::long_padding(packet)
+    (packet + 9) / 10 * 10
 }
 
 // The sum of the lengths of all frames of a message of `n` bytes, in a long form.
