@@ -68,13 +68,16 @@ snOf (ClearRequest d) = d .sn
 snOf (ClearConfirmation d) = d .sn
 
 -- ---- a packet in ten bytes, as `frame_reader` reads it and `frame_writer` takes it
+
+-- the ten bytes of a packet
 abbrev pub packetBytes : Packet → List ℕ
 packetBytes p = tenBytes (kindOf p) (valuesOf p)
 
--- the packet that ten bytes hold; DATA if the first names no kind
+-- the kind that was found; DATA if there is none
 abbrev pub kindOr : Found → Kind
 kindOr (Known k) = k
 kindOr Unknown = DataKind
 
+-- the packet that ten bytes hold
 unfoldable pub packetAt : List ℕ → Packet
 packetAt ten = packetOf (kindOr (kindAt (getD ten 0 0))) (drop 1 ten)

@@ -3,7 +3,7 @@
 -- Assumes nothing.
 use mathlib.Core.Path.{_≡_, refl, sym, ap, _∙_, subst}
 use mathlib.Core.Bool.{Bool, true, false, not}
-use mathlib.Core.List.{List, [], _∷_}
+use mathlib.Core.List.{List, [], _∷_, _++_}
 use mathlib.Core.Logic.{_⊎_, inl, inr}
 use Prim.Native.Nat.{ℕ, _+_, _≤_}
 use native.Mathlib.Omega.{arith}
@@ -29,11 +29,9 @@ use Rattle.frame.specs.Packets.{asData}
 use Rattle.frame.specs.Reading.{readOf, dataIn}
 use Rattle.message.specs.declared.joining.Joined.the-variants.{Refused as NotJoined}
 use Rattle.message.specs.Joining.{joinedPosition, packetVerdict, turnChecks, framesChecks, messageIn, sizeVerdict, joinChecks, joinOf}
-use Rattle.message.specs.JoiningParts.{allData}
 use Rattle.message.proofs.Positions.{check-near, turn-position}
-use Rattle.message.proofs.Users.{turn-data}
 use Rattle.message.proofs.Answers.{by-refused}
-use Rattle.message_claims.specs.Faults.{FirstBad, JoinFaults}
+use Rattle.message_claims.specs.Faults.{AllPass, runAfter, FirstBad, JoinFaults}
 
 -- ---- no position is past the end
 
@@ -89,81 +87,128 @@ within form lengths bytes room why at e =
 refusal-same : (why y : Refusal) (at q : ℕ) → refusedAt y q ≡ refusedAt why at → (y ≡ why) × (q ≡ at)
 refusal-same why y at q e = (cc, cc)
 
-all-at : (k : ℕ) (v : Verdict) (why : Refusal) (at : ℕ) → allAt k v ≡ refusedAt why at → at ≡ k
+all-at : (k : ℕ) (v : Verdict) (why : Refusal) (at : ℕ) → allAt k v ≡ refusedAt why at → (v ≡ Refused why) × (at ≡ k)
 all-at k Done why at e = let z : _≡_ {A = ℕ} 0 1 = cc in absurd (omega arith)
-all-at k (Refused y) why at e = sym (refusal-same why y at k e .1)
+all-at k (Refused y) why at e = (ap Refused (refusal-same why y at k e .0), sym (refusal-same why y at k e .1))
+
+-- frames with a bad one among them are some
+some-frames : (before : List (List ℕ)) (bad : List ℕ) (after : List (List ℕ)) → isNone (before ++ (bad ∷ after)) ≡ false
+some-frames [] bad after = refl
+some-frames (f ∷ fs) bad after = refl
 
 -- the bad frame, by what reading it answered
-bad-frame : (form : Form) (before : MaybeData) (f : List ℕ) (fs : List (List ℕ)) (why : Refusal) (at : ℕ) (r : Read) → readOf form f ≡ r
-    → turnChecks before (isNone fs) r ≡ refusedAt why at → FirstBad form (f ∷ fs) why at
-unfolding allData
-bad-frame form before f fs why at (PacketRead p user) er e = record {
-  before = [];
-  bad = f;
-  after = fs;
-  split = refl;
-  before-read = refl;
-  place = inr (p, user, er, all-at 0 (packetVerdict before (isNone fs) (asData p)) why at e);
-}
-bad-frame form before f fs why at (NotRead y q) er e =
+bad-frame : (form : Form) (run : MaybeData) (f : List ℕ) (fs : List (List ℕ)) (why : Refusal) (at : ℕ) (r : Read) → readOf form f ≡ r
+    → turnChecks run (isNone fs) r ≡ refusedAt why at → FirstBad form run (f ∷ fs) why at
+bad-frame form run f fs why at (PacketRead p user) er e =
+    let refused = all-at 0 (packetVerdict run (isNone fs) (asData p)) why at e in
+    record {
+      before = [];
+      bad = f;
+      after = fs;
+      split = refl;
+      before-pass = AllPass.none;
+      place = inr (p, user, er, refused .0, refused .1);
+    }
+bad-frame form run f fs why at (NotRead y q) er e =
     let same = refusal-same why y at q e in
     record {
       before = [];
       bad = f;
       after = fs;
       split = refl;
-      before-read = refl;
+      before-pass = AllPass.none;
       place = inl (at, er ∙ ap (λ (x : Refusal). NotRead x q) (same .0) ∙ ap (NotRead why) (same .1), omega arith);
     }
 
 -- one good frame more before it
-good-before : (form : Form) (before : MaybeData) (f : List ℕ) (fs : List (List ℕ)) (why : Refusal) (at : ℕ)
-    → turnChecks before (isNone fs) (readOf form f) ≡ passed → FirstBad form fs why at → FirstBad form (f ∷ fs) why (length f + at)
-unfolding allData
-good-before form before f fs why at good b = record {
+good-before : (form : Form) (run : MaybeData) (f : List ℕ) (fs : List (List ℕ)) (why : Refusal) (at : ℕ) → turnChecks run (isNone fs) (readOf form f) ≡ passed
+    → FirstBad form (dataIn (readOf form f)) fs why at → FirstBad form run (f ∷ fs) why (length f + at)
+good-before form run f fs why at good b = record {
   before = f ∷ b .before;
   bad = b .bad;
   after = b .after;
   split = ap (λ (x : List (List ℕ)). f ∷ x) (b .split);
-  before-read = rw (turn-data before (isNone fs) (readOf form f) good, b .before-read);
+  before-pass = AllPass.more (ap (λ (l : Bool). turnChecks run l (readOf form f)) (sym not-last) ∙ good) (b .before-pass);
   place = go (b .place);
 }
   where
+    not-last : isNone fs ≡ false
+    not-last = ap isNone (b .split) ∙ some-frames (b .before) (b .bad) (b .after)
+
     long : length (bytesIn (f ∷ b .before)) ≡ length f + length (bytesIn (b .before))
     long = length-append f (bytesIn (b .before))
 
+    packet-refused : Packet → Type 0
+    packet-refused p = packetVerdict (runAfter form (dataIn (readOf form f)) (b .before)) (isNone (b .after)) (asData p) ≡ Refused why
+
     go : ((q : ℕ) × (readOf form (b .bad) ≡ NotRead why q) × (at ≡ length (bytesIn (b .before)) + q))
-        ⊎ ((p : Packet) × (user : UserData) × (readOf form (b .bad) ≡ PacketRead p user) × (at ≡ length (bytesIn (b .before))))
+        ⊎ ((p : Packet) × (user : UserData) × (readOf form (b .bad) ≡ PacketRead p user) × packet-refused p × (at ≡ length (bytesIn (b .before))))
         → ((q : ℕ) × (readOf form (b .bad) ≡ NotRead why q) × (length f + at ≡ length (bytesIn (f ∷ b .before)) + q))
-        ⊎ ((p : Packet) × (user : UserData) × (readOf form (b .bad) ≡ PacketRead p user) × (length f + at ≡ length (bytesIn (f ∷ b .before))))
+        ⊎ ((p : Packet) × (user : UserData) × (readOf form (b .bad) ≡ PacketRead p user) × packet-refused p × (length f + at ≡ length (bytesIn (f ∷ b .before))))
     go (inl x) = inl (x .0, x .1, omega (arith, x .2, long))
-    go (inr x) = inr (x .0, x .1, x .2, omega (arith, x .3, long))
+    go (inr x) = inr (x .0, x .1, x .2, x .3, omega (arith, x .4, long))
 
 -- the position is counted from `start`
-first-bad : (form : Form) (before : MaybeData) (start : ℕ) (fs : List (List ℕ)) (why : Refusal) (at : ℕ) → framesChecks form before start fs ≡ refusedAt why at
-    → (q : ℕ) × FirstBad form fs why q × (at ≡ start + q)
+first-bad : (form : Form) (run : MaybeData) (start : ℕ) (fs : List (List ℕ)) (why : Refusal) (at : ℕ) → framesChecks form run start fs ≡ refusedAt why at
+    → (q : ℕ) × FirstBad form run fs why q × (at ≡ start + q)
 unfolding framesChecks
-first-bad form before start [] why at e = let z : _≡_ {A = ℕ} 0 1 = cc in absurd (omega arith)
-first-bad form before start (f ∷ fs) why at e =
-    go (turnChecks before (isNone fs) (readOf form f)) refl e (first-bad form (dataIn (readOf form f)) (start + length f) fs why at)
+first-bad form run start [] why at e = let z : _≡_ {A = ℕ} 0 1 = cc in absurd (omega arith)
+first-bad form run start (f ∷ fs) why at e =
+    go (turnChecks run (isNone fs) (readOf form f)) refl e (first-bad form (dataIn (readOf form f)) (start + length f) fs why at)
   where
-    go : (c : Checked) → turnChecks before (isNone fs) (readOf form f) ≡ c
+    go : (c : Checked) → turnChecks run (isNone fs) (readOf form f) ≡ c
         → andThenAt (from start c) (framesChecks form (dataIn (readOf form f)) (start + length f) fs) ≡ refusedAt why at
-        → (framesChecks form (dataIn (readOf form f)) (start + length f) fs ≡ refusedAt why at → (q : ℕ) × FirstBad form fs why q × (at ≡ start + length f + q))
-        → (q : ℕ) × FirstBad form (f ∷ fs) why q × (at ≡ start + q)
+        → (framesChecks form (dataIn (readOf form f)) (start + length f) fs ≡ refusedAt why at
+        → (q : ℕ) × FirstBad form (dataIn (readOf form f)) fs why q × (at ≡ start + length f + q))
+        → (q : ℕ) × FirstBad form run (f ∷ fs) why q × (at ≡ start + q)
     go passed ec e later =
         let b = later e in
-        (length f + b .0, good-before form before f fs why (b .0) ec (b .1), omega (arith, b .2))
+        (length f + b .0, good-before form run f fs why (b .0) ec (b .1), omega (arith, b .2))
     go (refusedAt y q) ec e later =
         let same = refusal-same why y at (start + q) e in
-        (q, bad-frame form before f fs why q (readOf form f) refl (ec ∙ ap (λ (x : Refusal). refusedAt x q) (same .0)), sym (same .1))
+        (q, bad-frame form run f fs why q (readOf form f) refl (ec ∙ ap (λ (x : Refusal). refusedAt x q) (same .0)), sym (same .1))
 
 first-bad-frame : (form : Form) (lengths bytes : List ℕ) (why : Refusal) (at : ℕ) → framesChecks form Nothing 0 (partsOf lengths bytes) ≡ refusedAt why at
-    → FirstBad form (partsOf lengths bytes) why at
+    → FirstBad form Nothing (partsOf lengths bytes) why at
 first-bad-frame form lengths bytes why at e =
     let b = first-bad form Nothing 0 (partsOf lengths bytes) why at e in
     let same : b .0 ≡ at = omega (arith, b .2) in
-    subst (FirstBad form (partsOf lengths bytes) why) same (b .1)
+    subst (FirstBad form Nothing (partsOf lengths bytes) why) same (b .1)
+
+-- ---- frames with a first bad one are refused
+
+after-good : (form : Form) (run : MaybeData) (start : ℕ) (before : List (List ℕ)) (bad : List ℕ) (after : List (List ℕ)) (why : Refusal) (q : ℕ) → AllPass form run before
+    → turnChecks (runAfter form run before) (isNone after) (readOf form bad) ≡ refusedAt why q
+    → framesChecks form run start (before ++ (bad ∷ after)) ≡ refusedAt why (start + (length (bytesIn before) + q))
+unfolding framesChecks
+after-good form run start [] bad after why q pass e =
+    let same : start + q ≡ start + (0 + q) = omega arith in
+    ap (λ (c : Checked). andThenAt (from start c) (framesChecks form (dataIn (readOf form bad)) (start + length bad) after)) e ∙ ap (refusedAt why) same
+after-good form run start (f ∷ fs) bad after why q (AllPass.more good rest) e =
+    let tail = fs ++ (bad ∷ after) in
+    let later = after-good form (dataIn (readOf form f)) (start + length f) fs bad after why q rest e in
+    let here : turnChecks run (isNone tail) (readOf form f) ≡ passed = ap (λ (l : Bool). turnChecks run l (readOf form f)) (some-frames fs bad after) ∙ good in
+    let same : start + length f + (length (bytesIn fs) + q) ≡ start + (length (bytesIn (f ∷ fs)) + q) = omega (arith, length-append f (bytesIn fs)) in
+    ap (λ (c : Checked). andThenAt (from start c) (framesChecks form (dataIn (readOf form f)) (start + length f) tail)) here ∙ later
+    ∙ ap (refusedAt why) same
+
+bad-is-refused : (form : Form) (frames : List (List ℕ)) (why : Refusal) (at : ℕ) → FirstBad form Nothing frames why at
+    → framesChecks form Nothing 0 frames ≡ refusedAt why at
+bad-is-refused form frames why at b = ap (framesChecks form Nothing 0) (b .split) ∙ go (b .place)
+  where
+    run : MaybeData
+    run = runAfter form Nothing (b .before)
+
+    go : ((q : ℕ) × (readOf form (b .bad) ≡ NotRead why q) × (at ≡ length (bytesIn (b .before)) + q))
+        ⊎ ((p : Packet) × (user : UserData) × (readOf form (b .bad) ≡ PacketRead p user) × (packetVerdict run (isNone (b .after)) (asData p) ≡ Refused why)
+        × (at ≡ length (bytesIn (b .before)))) → framesChecks form Nothing 0 (b .before ++ (b .bad ∷ b .after)) ≡ refusedAt why at
+    go (inl x) =
+        let same : 0 + (length (bytesIn (b .before)) + x .0) ≡ at = omega (arith, x .2) in
+        after-good form Nothing 0 (b .before) (b .bad) (b .after) why (x .0) (b .before-pass) (ap (turnChecks run (isNone (b .after))) (x .1)) ∙ ap (refusedAt why) same
+    go (inr x) =
+        let same : 0 + (length (bytesIn (b .before)) + 0) ≡ at = omega (arith, x .4) in
+        after-good form Nothing 0 (b .before) (b .bad) (b .after) why 0 (b .before-pass) (ap (turnChecks run (isNone (b .after))) (x .2) ∙ ap (allAt 0) (x .3))
+        ∙ ap (refusedAt why) same
 
 -- ---- every refusal
 
@@ -177,7 +222,7 @@ then-placed A passed d why at e here later = later e
 then-placed A (refusedAt y q) d why at e here later = here e
 
 checks-placed : (form : Form) (lengths bytes : List ℕ) (room : ℕ) (why : Refusal) (at : ℕ) → joinChecks form lengths bytes room ≡ refusedAt why at
-    → ((why ≡ OutOfRange) × (at ≡ 0)) ⊎ ((at ≡ length bytes) ⊎ FirstBad form (partsOf lengths bytes) why at)
+    → ((why ≡ OutOfRange) × (at ≡ 0)) ⊎ ((at ≡ length bytes) ⊎ FirstBad form Nothing (partsOf lengths bytes) why at)
 unfolding joinChecks
 checks-placed form lengths bytes room why at e =
     let fs = partsOf lengths bytes in
@@ -191,10 +236,10 @@ checks-placed form lengths bytes room why at e =
     (λ e1. check-placed _ (eqb (sum lengths) all) Malformed why all at r2 e1 (λ s. inr (inl (sym (s .1))))
     (λ e2. check-placed _ (not (isNone lengths)) Malformed why all at r3 e2 (λ s. inr (inl (sym (s .1))))
     (λ e3. then-placed _ run size why at e3 (λ e4. inr (inr (first-bad-frame form lengths bytes why at e4)))
-    (λ e5. inr (inl (all-at all (sizeVerdict (length (messageIn form fs)) room) why at e5))))))
+    (λ e5. inr (inl (all-at all (sizeVerdict (length (messageIn form fs)) room) why at e5 .1))))))
 
 placed : (form : Form) (lengths bytes : List ℕ) (room : ℕ) (why : Refusal) (at : ℕ) → joinOf form lengths bytes room ≡ NotJoined why at
-    → ((why ≡ OutOfRange) × (at ≡ 0)) ⊎ ((at ≡ length bytes) ⊎ FirstBad form (partsOf lengths bytes) why at)
+    → ((why ≡ OutOfRange) × (at ≡ 0)) ⊎ ((at ≡ length bytes) ⊎ FirstBad form Nothing (partsOf lengths bytes) why at)
 unfolding joinOf
 placed form lengths bytes room why at e =
     checks-placed form lengths bytes room why at (by-refused (joinChecks form lengths bytes room) (length (messageIn form (partsOf lengths bytes))) why at e)
@@ -204,5 +249,6 @@ join-faults = record {
   joined-at-zero = λ form lengths bytes room n e. ap joinedPosition e;
   within = within;
   first-bad-frame = λ form lengths bytes why at sums e. first-bad-frame form lengths bytes why at e;
+  bad-is-refused = bad-is-refused;
   placed = placed;
 }
