@@ -12,7 +12,7 @@ use lib.Dec.{eqb}
 use lib.ListN.{length, take, drop, getD, take-append-drop, length-drop, replicate-append-replicate}
 use lib.Pow.{pow-pos, shr-le, low, field, mod-mod-pow, mod-pow-add}
 use lib.Seq.{drop-cons, drop-drop, take-all}
-use borrow.Author.Tests.{eq-eqb}
+use borrow.Author.Tests.{eq-eqb, ne-eqb}
 use Rattle.refusal.proofs.Checks.{both-true}
 use Rattle.frame_fields.specs.Rows.{total, packAfter, InRange, eights, numberIn, AreBytes}
 use Rattle.frame_fields.proofs.Rows.{pack-leads, pack-append, bytes-range}
@@ -22,19 +22,13 @@ use Rattle.frame_reader.specs.Faults.{zerosFirst}
 
 -- ---- one by one
 
--- a zero byte does not decide: the rest does
-pub zero-step : (i : ℕ) (s : List ℕ) → i < length s → getD s i 0 ≡ 0 → allZero (drop i s) ≡ allZero (drop (i + 1) s)
-zero-step i s h e = rw (add-one, drop-cons s i 0 h, e)
-
--- a byte that is not zero decides
-pub nonzero-step : (i : ℕ) (s : List ℕ) → i < length s → eqb (getD s i 0) 0 ≡ false → allZero (drop i s) ≡ false
-nonzero-step i s h e = rw (drop-cons s i 0 h, e)
-
+-- a zero byte is counted, and the count goes on
 pub count-step : (i : ℕ) (s : List ℕ) → i < length s → getD s i 0 ≡ 0 → i + zerosFirst (drop i s) ≡ i + 1 + zerosFirst (drop (i + 1) s)
 count-step i s h e =
     let one : zerosFirst (drop i s) ≡ suc (zerosFirst (drop (i + 1) s)) = rw (add-one, drop-cons s i 0 h, e) in
     omega (arith, one)
 
+-- a byte that is not zero ends it
 pub count-stop : (i : ℕ) (s : List ℕ) → i < length s → eqb (getD s i 0) 0 ≡ false → zerosFirst (drop i s) ≡ 0
 count-stop i s h e = rw (drop-cons s i 0 h, e)
 
@@ -69,6 +63,13 @@ all-after n s e = omega (arith, count-all (drop n s) e, length-drop n s)
 
 pub some-after : (n : ℕ) (s : List ℕ) → allZero (drop n s) ≡ false → n + zerosFirst (drop n s) < length s
 some-after n s e = omega (arith, count-some (drop n s) e, length-drop n s)
+
+pub all-counted : (n : ℕ) (s : List ℕ) → n ≤ length s → eqb (n + zerosFirst (drop n s)) (length s) ≡ allZero (drop n s)
+all-counted n s h = go (allZero (drop n s)) refl
+  where
+    go : (b : Bool) → allZero (drop n s) ≡ b → eqb (n + zerosFirst (drop n s)) (length s) ≡ b
+    go true e = eq-eqb (n + zerosFirst (drop n s)) (length s) (omega (arith, h, count-all (drop n s) e, length-drop n s))
+    go false e = ne-eqb (n + zerosFirst (drop n s)) (length s) (λ x. omega (arith, x, some-after n s e))
 
 -- ---- the end of a number
 

@@ -131,18 +131,19 @@ fn length_in(form: u8, len: usize, size: usize, u: u8) -> usize
     length_by_lv(10, len, size, u as usize)
 }
 
-// Whether all bytes of `frame` from index `from` to its end are 0.
-fn zeros_from(frame: &[u8], from: usize) -> bool
-    ensures { λ r. ⌜ r ≡ allZero (drop from (now (frame .entry))) ⌝ }
+// The index of the first byte from `from` on that is not 0; the frame's length if there is none.
+fn zeros_end(frame: &[u8], from: usize) -> usize
+    requires { ⌜ from ≤ length (now frame) ⌝ }
+    ensures { λ r. ⌜ r ≡ from + zerosFirst (drop from (now (frame .entry))) ⌝ }
 {
     let mut i = from;
     while i < frame.len() {
         if frame[i] != 0 {
-            return false;
+            return i;
         }
         i = i + 1;
     }
-    true
+    i
 }
 
 // Whether the bytes from index `from` to the end are surely 0: at most eight, and the number that
@@ -168,11 +169,12 @@ fn is_padded(frame: &[u8], from: usize) -> bool
     if ends_in_zeros(frame, from) {
         return true;
     }
-    zeros_from(frame, from)
+    zeros_end(frame, from) == frame.len()
 }
 
 // ---- the packet's ten bytes
 
+// Writes five bytes.
 fn put_five(out: &mut [u8], a: u8, b: u8, c: u8, d: u8, e: u8)
     requires { ⌜ length (now out) ≡ 5 ⌝ }
     ensures { λ _. ⌜ now (out .exit) ≡ a ∷ b ∷ c ∷ d ∷ e ∷ [] ⌝ }
@@ -184,6 +186,7 @@ fn put_five(out: &mut [u8], a: u8, b: u8, c: u8, d: u8, e: u8)
     out[4] = e;
 }
 
+// Writes four bytes.
 fn put_four(out: &mut [u8], a: u8, b: u8, c: u8, d: u8)
     requires { ⌜ length (now out) ≡ 4 ⌝ }
     ensures { λ _. ⌜ now (out .exit) ≡ a ∷ b ∷ c ∷ d ∷ [] ⌝ }
@@ -365,21 +368,6 @@ fn first_wrong(wrong: u64, size: usize) -> usize
 {
     let zeros = u64::leading_zeros(wrong) as usize;
     (zeros + 8 * size - 64) / 8
-}
-
-// The index of the first byte from `from` on that is not 0; the frame's length if there is none.
-fn zeros_end(frame: &[u8], from: usize) -> usize
-    requires { ⌜ from ≤ length (now frame) ⌝ }
-    ensures { λ r. ⌜ r ≡ from + zerosFirst (drop from (now (frame .entry))) ⌝ }
-{
-    let mut i = from;
-    while i < frame.len() {
-        if frame[i] != 0 {
-            return i;
-        }
-        i = i + 1;
-    }
-    i
 }
 
 // The position of what a frame is refused for with 3 or 13, read as a packet with LV; 0 if it

@@ -44,7 +44,7 @@ some-passed : (before : MaybeData) (last : Bool) (x : MaybeData) → packetVerdi
 some-passed before last Nothing e = let z : _≡_ {A = ℕ} 0 1 = cc in absurd (omega arith)
 some-passed before last (SomeData d) e = refl
 
-pub turn-data : (before : MaybeData) (last : Bool) (r : Read) → turnChecks before last r ≡ passed → isData r ≡ true
+turn-data : (before : MaybeData) (last : Bool) (r : Read) → turnChecks before last r ≡ passed → isData r ≡ true
 turn-data before last (PacketRead p place) e = some-passed before last (asData p) (all-passed 0 (packetVerdict before last (asData p)) e)
 turn-data before last (NotRead why at) e = let z : _≡_ {A = ℕ} 0 1 = cc in absurd (omega arith)
 
