@@ -77,6 +77,39 @@ static void window(void)
     IS(pk_sender_in_order(sender, PK_SENDER_BYTES), PK_NOT_IN_ORDER);
 }
 
+static void sender_is(uint8_t edge, uint8_t next, uint8_t mark)
+{
+    IS(sender[0], edge);
+    IS(sender[1], next);
+    IS(sender[2], mark);
+}
+
+/* Edge 3, next 6: an RNR holds the end off, and only an RR or a REJECT that is not refused lifts
+ * that. */
+static void hold(void)
+{
+    OF32(PK_NUMBER, pk_sender_fresh(sender, PK_SENDER_BYTES), PK_DONE);
+    sender_is(0, 0, 0);
+    sender[0] = 3;
+    sender[1] = 6;
+    OF32(PK_NUMBER, pk_sender_not_ready(sender, PK_SENDER_BYTES, 7), PK_NEVER_SENT);
+    sender_is(3, 6, 0);
+    OF32(PK_NUMBER, pk_sender_not_ready(sender, PK_SENDER_BYTES, 3), PK_DONE);
+    sender_is(3, 6, 1);
+    OF32(PK_NUMBER, pk_sender_send(sender, PK_SENDER_BYTES), PK_WINDOW_CLOSED);
+    OF32(PK_NUMBER, pk_sender_ready(sender, PK_SENDER_BYTES, 7), PK_NEVER_SENT);
+    OF32(PK_NUMBER, pk_sender_acknowledge(sender, PK_SENDER_BYTES, 5), PK_DONE);
+    sender_is(5, 6, 1);
+    OF32(PK_NUMBER, pk_sender_reject(sender, PK_SENDER_BYTES, 5), PK_DONE);
+    sender_is(5, 6, 0);
+    OF32(PK_NUMBER, pk_sender_not_ready(sender, PK_SENDER_BYTES, 6), PK_DONE);
+    OF32(PK_NUMBER, pk_sender_ready(sender, PK_SENDER_BYTES, 6), PK_DONE);
+    OF32(PK_SEND_PS, pk_sender_send(sender, PK_SENDER_BYTES), 6);
+    sender[2] = 2;
+    IS(pk_sender_in_order(sender, PK_SENDER_BYTES), PK_NOT_IN_ORDER);
+    OF32(PK_NUMBER, pk_sender_ready(sender, PK_SENDER_BYTES, 99), PK_NOT_IN_ORDER);
+}
+
 static void receiving(void)
 {
     uint32_t answer = pk_receiver_fresh(receiver, LESS(PK_RECEIVER_BYTES));
@@ -204,25 +237,127 @@ static void read_back(size_t frame, uint8_t kind, size_t start, size_t user)
     IS(packet[0], kind);
 }
 
+/* Each kind with its header's length, user data and the frame that holds both; and how the frame
+ * begins if all fields are 0. */
+static const struct {
+    uint8_t kind, first;
+    size_t start, user, frame;
+} written[] = {
+    { PK_DATA, 0x80, 3, 140, 150 },
+    { PK_CLEAR_REQUEST, 0x58, 7, 20, 30 },
+    { PK_CLEAR_CONFIRMATION, 0x5C, 4, 0, 10 },
+    { PK_CALL_REQUEST, 0x50, 5, 20, 30 },
+    { PK_CALL_ACCEPT, 0x54, 5, 5, 10 },
+    { PK_RR, 0x60, 3, 0, 10 },
+    { PK_RNR, 0x64, 3, 0, 10 },
+    { PK_REJECT, 0x7D, 3, 0, 10 },
+    { PK_INTERRUPT, 0x74, 3, 8, 20 },
+    { PK_INTERRUPT_CONFIRMATION, 0x7C, 3, 0, 10 },
+    { PK_RESET, 0x68, 5, 0, 10 },
+    { PK_RESET_CONFIRMATION, 0x6C, 3, 0, 10 },
+};
+
 static void kinds(void)
 {
-    static const uint8_t kind[] = { PK_DATA, PK_CLEAR_REQUEST, PK_CLEAR_CONFIRMATION };
-    static const size_t start[] = { 3, 7, 4 }, user[] = { 140, 20, 0 }, frame[] = { 150, 30, 10 };
     size_t i;
 
-    for (i = 0; i < 3; i++) {
+    for (i = 0; i < sizeof written / sizeof written[0]; i++) {
         memset(packet, 0, sizeof packet);
-        packet[0] = kind[i];
-        OF64(PK_WRITE_BYTES, write_frame(PK_LONG_UPLINK, user[i]), frame[i]);
-        read_back(frame[i], kind[i], start[i], user[i]);
+        packet[0] = written[i].kind;
+        OF64(PK_WRITE_BYTES, write_frame(PK_LONG_UPLINK, written[i].user), written[i].frame);
+        IS(frames[0], written[i].first);
+        read_back(written[i].frame, written[i].kind, written[i].start, written[i].user);
     }
-    packet[9] = 1; /* a CLEAR CONFIRMATION has no use for it */
+    packet[9] = 1; /* a RESET CONFIRMATION has no use for it */
+    OF64(PK_NUMBER, write_frame(PK_LONG_UPLINK, 0), PK_OUT_OF_RANGE);
+    memset(packet, 0, sizeof packet);
+    packet[0] = PK_ROUTE; /* it is written by a call of its own */
     OF64(PK_NUMBER, write_frame(PK_LONG_UPLINK, 0), PK_OUT_OF_RANGE);
     OF64(PK_NUMBER, pk_frame_read(PK_LONG_UPLINK, frames, 9, packet, PK_PACKET_BYTES),
          PK_MALFORMED);
     frames[9] = 1;
     OF64(PK_NUMBER, pk_frame_read(PK_LONG_UPLINK, frames, 10, packet, PK_PACKET_BYTES),
          PK_FORMAT_ERROR);
+}
+
+/* The fields of a packet, one by one, and the frame that they make. */
+static void fields(uint8_t form, const uint8_t *wanted, const uint8_t *front, size_t bytes)
+{
+    size_t i;
+
+    memcpy(packet, wanted, sizeof packet);
+    OF64(PK_WRITE_BYTES, write_frame(form, 0), 10);
+    for (i = 0; i < 10; i++)
+        IS(frames[i], i < bytes ? front[i] : 0);
+    memset(packet, 0xEE, sizeof packet);
+    OF64(PK_READ_USER_START, pk_frame_read(form, frames, 10, packet, PK_PACKET_BYTES), bytes);
+    for (i = 0; i < sizeof packet; i++)
+        IS(packet[i], wanted[i]);
+}
+
+/* SN 5, CH 3, PR 7, AM 2, AG 41 hex; the CALL packets on the uplink and on the downlink. */
+static void layouts(void)
+{
+    static const uint8_t ready[10] = { PK_RR, 5, 3, 7 }, ready_front[] = { 0x60, 5, 0x37 };
+    static const uint8_t reset[10] = { PK_RESET, 5, 3, 1, 2 };
+    static const uint8_t reset_front[] = { 0x68, 5, 0x30, 1, 2 };
+    static const uint8_t request_up[10] = { PK_CALL_REQUEST, 1, 5, 1, 0, 2, 0x41, 0, 0, 0 };
+    static const uint8_t request_down[10] = { PK_CALL_REQUEST, 1, 5, 0, 3, 2, 0x41, 0, 0, 0 };
+    static const uint8_t request_up_front[] = { 0x50, 0x85, 0x12, 0x41, 5 };
+    static const uint8_t request_down_front[] = { 0x50, 0x85, 0x32, 0x41, 5 };
+    static const uint8_t accept_down[10] = { PK_CALL_ACCEPT, 1, 5, 3, 2, 0x41, 0, 1, 0, 0 };
+    static const uint8_t accept_down_front[] = { 0x54, 0x45, 0x32, 0x41, 0x15 };
+
+    fields(PK_LONG_UPLINK, ready, ready_front, 3);
+    fields(PK_LONG_UPLINK, reset, reset_front, 5);
+    fields(PK_LONG_UPLINK, request_up, request_up_front, 5);
+    fields(pk_long_downlink(1), request_down, request_down_front, 5);
+    fields(pk_long_downlink(1), accept_down, accept_down_front, 5);
+    memcpy(packet, request_down, sizeof packet);
+    OF64(PK_NUMBER, write_frame(PK_LONG_UPLINK, 0), PK_OUT_OF_RANGE);
+    memcpy(packet, accept_down, sizeof packet);
+    OF64(PK_NUMBER, write_frame(PK_LONG_UPLINK, 0), PK_OUT_OF_RANGE);
+    memcpy(packet, ready, sizeof packet);
+    OF64(PK_NUMBER, write_frame(PK_LONG_UPLINK, 1), PK_OUT_OF_RANGE);
+}
+
+/* So many bytes of a table and of optional data, which is there if `of` is 1. */
+static uint64_t write_route(uint8_t form, uint8_t of, size_t bytes, size_t data)
+{
+    return pk_route_write(form, 1, of, table, bytes, message, data, frames, sizeof frames);
+}
+
+/* A ROUTE with IN = 1: absent and empty data are two values. */
+static void route_frames(void)
+{
+    static const uint8_t front[] = { 0x73, 3, 0x59, 0x12, 0x40, 2, 7, 8, 0, 0 };
+    uint64_t answer;
+    size_t i;
+
+    memset(table, 0, sizeof table);
+    memcpy(table, front + 2, 3);
+    message[0] = 7;
+    message[1] = 8;
+    OF64(PK_WRITE_BYTES, write_route(PK_LONG_UPLINK, 1, 3, 2), 10);
+    for (i = 0; i < sizeof front; i++)
+        IS(frames[i], front[i]);
+    read_back(10, PK_ROUTE, 2, 6);
+    IS(packet[1], 1); /* OF */
+    IS(packet[2], 1); /* IN */
+    IS(packet[3], 3); /* RTL */
+    OF64(PK_WRITE_BYTES, write_route(PK_LONG_UPLINK, 1, 3, 0), 10);
+    read_back(10, PK_ROUTE, 2, 4);
+    OF64(PK_WRITE_BYTES, write_route(PK_LONG_UPLINK, 0, 3, 0), 10);
+    read_back(10, PK_ROUTE, 2, 3);
+    answer = write_route(PK_LONG_UPLINK, 0, 3, 1);
+    OF64(PK_NUMBER, answer, PK_OUT_OF_RANGE);
+    OF64(PK_WRITE_BYTES, answer, 0);
+    OF64(PK_NUMBER, write_route(PK_LONG_UPLINK, 2, 3, 1), PK_OUT_OF_RANGE);
+    OF64(PK_NUMBER, write_route(PK_SHORT_UPLINK, 1, 300, 1), PK_SHORT_FORM);
+    OF64(PK_NUMBER, write_route(PK_LONG_UPLINK, 1, 256, 0), PK_PACKET_TOO_LONG);
+    OF64(PK_WRITE_BYTES, write_route(PK_LONG_UPLINK, 1, 149, 0), 160);
+    answer = pk_route_write(PK_LONG_UPLINK, 0, 0, table, 150, message, 0, frames, 159);
+    OF64(PK_NUMBER, answer, PK_OUTPUT_TOO_SHORT);
 }
 
 /* Where frames are bad: how a frame begins, zeros after that, and its length. */
@@ -248,6 +383,18 @@ static const struct {
     { PK_SHORT_UPLINK, { 0x80, 0, 1 }, 35, PK_PACKET_TOO_LONG, 28 },
     { 1, { 0x80, 0, 3 }, 20, PK_PACKET_TOO_LONG, 10 },
     { PK_LONG_UPLINK, { 0x80, 0, 3 }, 160, PK_PACKET_TOO_LONG, 152 },
+    { PK_LONG_UPLINK, { 0x60, 5, 0x37 }, 20, PK_FORMAT_ERROR, 10 },
+    { PK_LONG_UPLINK, { 0x60, 5, 0x37, 0, 0, 0, 0, 0, 0, 1 }, 20, PK_FORMAT_ERROR, 9 },
+    { PK_LONG_UPLINK, { 0x60, 0xC5, 0x37 }, 10, PK_FORMAT_ERROR, 1 },
+    { PK_LONG_UPLINK, { 0x74, 5, 0x32 }, 10, PK_FORMAT_ERROR, 2 },
+    { 1, { 0x54, 0x45, 0x32, 0x41, 0x45 }, 10, PK_FORMAT_ERROR, 4 },
+    { PK_LONG_UPLINK, { 0x54, 0x45, 0x32, 0x41, 5 }, 10, PK_FORMAT_ERROR, 1 },
+    { PK_LONG_UPLINK, { 0x7E, 5, 0x30 }, 10, PK_FORMAT_ERROR, 0 },
+    { PK_LONG_UPLINK, { 0x72, 7, 1, 2, 3, 4, 5, 6, 7, 0 }, 10, PK_DONE, 0 },
+    { PK_LONG_UPLINK, { 0x72, 8, 1, 2, 3, 4, 5, 6, 7, 8 }, 10, PK_FORMAT_ERROR, 1 },
+    { PK_LONG_UPLINK, { 0x72, 6, 1, 2, 3, 4, 5, 6, 2, 0 }, 10, PK_FORMAT_ERROR, 8 },
+    { PK_LONG_UPLINK, { 0x70, 8, 1, 2, 3, 4, 5, 6, 7, 8 }, 20, PK_FORMAT_ERROR, 10 },
+    { 1, { 0x70, 9, 1, 2, 3, 4, 5, 6, 7, 8 }, 20, PK_PACKET_TOO_LONG, 10 },
 };
 
 static void frame_faults(void)
@@ -411,13 +558,21 @@ static void constants(void)
         PK_WINDOW_CLOSED, PK_OUTSIDE_WINDOW, PK_OUT_OF_SEQUENCE, PK_FIRST_NOT_ZERO,
         PK_PACKET_TOO_LONG, PK_NOT_IN_ORDER, PK_ALL_FAILED, PK_NEVER_SENT, PK_RUN_BROKEN,
     };
+    static const unsigned kinds_in_order[] = {
+        PK_DATA, PK_CLEAR_REQUEST, PK_CLEAR_CONFIRMATION, PK_CALL_REQUEST, PK_CALL_ACCEPT, PK_RR,
+        PK_RNR, PK_REJECT, PK_INTERRUPT, PK_INTERRUPT_CONFIRMATION, PK_RESET,
+        PK_RESET_CONFIRMATION, PK_ROUTE,
+    };
     unsigned number;
 
+    for (number = 0; number < sizeof kinds_in_order / sizeof kinds_in_order[0]; number++)
+        check("a kind's number", kinds_in_order[number], number);
+    IS(number, 13);
     for (number = 0; number < sizeof refusals / sizeof refusals[0]; number++)
         check("a refusal's number", refusals[number], number);
     IS(number, 18);
     IS(PK_SHORT_FORM, 23);
-    IS(PK_SENDER_BYTES, 2);
+    IS(PK_SENDER_BYTES, 3);
     IS(PK_RECEIVER_BYTES, 3);
     IS(PK_RESEQUENCER_BYTES, 146);
     IS(PK_TICKETS, 32);
@@ -436,10 +591,13 @@ int main(void)
 {
     constants();
     window();
+    hold();
     receiving();
     resequencer();
     forms();
     kinds();
+    layouts();
+    route_frames();
     frame_faults();
     messages();
     message_faults();

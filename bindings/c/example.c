@@ -1,5 +1,5 @@
 /* A message is cut into frames, the frames arrive in another order, and the message is joined
- * again. Prints what became of each arrival. */
+ * again. Then an RNR holds the sending end off until an RR comes. Prints what became of each. */
 #include <stdio.h>
 #include <string.h>
 
@@ -60,6 +60,60 @@ static int arrives(uint8_t *state, size_t frame)
     return 0;
 }
 
+/* A packet without user data comes in that tells the sending end how far the other side has got:
+ * an RR or an RNR on channel 3. It is written by the other side, and read on this one. */
+static int comes_in(uint8_t *sender, uint8_t kind, uint8_t pr)
+{
+    static const uint8_t none[1];
+    uint8_t packet[PK_PACKET_BYTES] = { 0 }, frame[10];
+    uint64_t answer;
+    uint32_t taken;
+
+    packet[0] = kind;
+    packet[1] = 5; /* SN */
+    packet[2] = 3; /* CH */
+    packet[3] = pr;
+    answer = pk_frame_write(PK_LONG_UPLINK, packet, sizeof packet, none, 0, frame, sizeof frame);
+    if (PK_NUMBER(answer) != PK_DONE)
+        return failed("write", PK_NUMBER(answer));
+    answer = pk_frame_read(PK_LONG_UPLINK, frame, sizeof frame, packet, sizeof packet);
+    if (PK_NUMBER(answer) != PK_DONE)
+        return failed("read", PK_NUMBER(answer));
+    taken = packet[0] == PK_RNR ? pk_sender_not_ready(sender, PK_SENDER_BYTES, packet[3])
+                                : pk_sender_ready(sender, PK_SENDER_BYTES, packet[3]);
+    if (PK_NUMBER(taken) != PK_DONE)
+        return failed("PR", PK_NUMBER(taken));
+    printf("%s with PR %d comes in: %02X %02X %02X\n", kind == PK_RNR ? "RNR" : "RR", pr, frame[0],
+           frame[1], frame[2]);
+    return 0;
+}
+
+static void sends(uint8_t *sender)
+{
+    uint32_t answer = pk_sender_send(sender, PK_SENDER_BYTES);
+
+    if (PK_NUMBER(answer) == PK_DONE)
+        printf("PS %d may be sent\n", PK_SEND_PS(answer));
+    else
+        printf("sending is refused with %d\n", PK_NUMBER(answer));
+}
+
+static int hold(void)
+{
+    uint8_t sender[PK_SENDER_BYTES];
+
+    if (PK_NUMBER(pk_sender_fresh(sender, sizeof sender)) != PK_DONE)
+        return failed("fresh", PK_NOT_IN_ORDER);
+    sends(sender);
+    if (comes_in(sender, PK_RNR, 1))
+        return 1;
+    sends(sender);
+    if (comes_in(sender, PK_RR, 1))
+        return 1;
+    sends(sender);
+    return 0;
+}
+
 int main(void)
 {
     static const size_t order[] = { 1, 0, 3, 3, 2, 4 };
@@ -91,5 +145,5 @@ int main(void)
         return failed("join", PK_NUMBER(join));
     printf("%zu frames joined to %zu bytes: %s\n", handed, PK_JOIN_BYTES(join),
            memcmp(message, joined, MESSAGE) == 0 ? "the message" : "something else");
-    return 0;
+    return hold();
 }

@@ -52,7 +52,7 @@ extern "C" {
 #define PK_ROUTE_LIST_MALFORMED 6  /* route list over 255 bytes, or its last entry is cut */
 #define PK_NO_CLOCK 7              /* no clock runs for that number */
 #define PK_NO_INTERROGATOR 8       /* ground address has no interrogator */
-#define PK_WINDOW_CLOSED 9         /* send window closed */
+#define PK_WINDOW_CLOSED 9         /* send window closed, or held off by RNR */
 #define PK_OUTSIDE_WINDOW 10       /* received PS outside the window */
 #define PK_OUT_OF_SEQUENCE 11      /* received PS out of sequence */
 #define PK_FIRST_NOT_ZERO 12       /* received PS not 0, and none accepted yet */
@@ -74,19 +74,26 @@ uint8_t pk_link_next(uint8_t number);                 /* the number after, modul
 uint8_t pk_packet_distance(uint8_t from, uint8_t to); /* the same, modulo 16 */
 uint8_t pk_packet_next(uint8_t number);
 
-/* ---- the flow window, sending end. State: [0] lower edge, [1] next PS. */
+/* ---- the flow window, sending end. State: [0] lower edge, [1] next PS, [2] 1 while an RNR holds
+ * the end off, else 0. */
 
-#define PK_SENDER_BYTES 2
+#define PK_SENDER_BYTES 3
 
-/* Writes a fresh state: nothing sent. Refused with 14 (a wrong length). */
+/* Writes a fresh state: nothing sent, not held off. Refused with 14 (a wrong length). */
 uint32_t pk_sender_fresh(uint8_t *state, size_t state_len);
 /* 0 if the bytes are a state in good order, else 14. */
 uint32_t pk_sender_in_order(const uint8_t *state, size_t state_len);
-/* Asks for the PS of the next packet to send: bits 8 to 15. Refused with 14, 9. */
+/* Asks for the PS of the next packet to send: bits 8 to 15. Refused with 14, 9 (the window is
+ * closed, or the end is held off). */
 uint32_t pk_sender_send(uint8_t *state, size_t state_len);
 #define PK_SEND_PS(answer) ((uint8_t)((answer) >> 8 & 0xFF))
-/* Takes a received PR. Refused with 14, 1, 16. */
+/* Takes the PR of a received packet: of DATA, which leaves the mark; of an RR, which lifts it; of
+ * an RNR, which sets it; of a REJECT, which lifts it and leaves the next PS as it is. Refused with
+ * 14, 1, 16; a refused one changes nothing. */
 uint32_t pk_sender_acknowledge(uint8_t *state, size_t state_len, uint8_t pr);
+uint32_t pk_sender_ready(uint8_t *state, size_t state_len, uint8_t pr);
+uint32_t pk_sender_not_ready(uint8_t *state, size_t state_len, uint8_t pr);
+uint32_t pk_sender_reject(uint8_t *state, size_t state_len, uint8_t pr);
 
 /* ---- the flow window, receiving end. State: [0] expected PS, [1] 1 until a packet is accepted,
  * then 0, [2] count of packets not yet told. Three zero bytes are in good order but not fresh. */
@@ -151,29 +158,58 @@ static inline uint8_t pk_long_downlink(unsigned segments)
 
 /* A packet: [0] its kind, then a byte for each of its fields, in the frame's order. The other bytes
  * are 0 when a packet is read, and must be 0 when it is written.
- *   DATA                [1] M  [2] SN [3] PS [4] PR [5] CH
- *   CLEAR REQUEST       [1] TC [2] SN [3] CH [4] AM [5] AG [6] CC [7] DC [8] S [9] F
- *   CLEAR CONFIRMATION  [1] TC [2] SN [3] CH [4] AM [5] AG */
+ *   DATA                    [1] M  [2] SN [3] PS [4] PR [5] CH
+ *   CLEAR REQUEST           [1] TC [2] SN [3] CH [4] AM [5] AG [6] CC [7] DC [8] S [9] F
+ *   CLEAR CONFIRMATION      [1] TC [2] SN [3] CH [4] AM [5] AG
+ *   CALL REQUEST            [1] P  [2] SN [3] TC [4] CH [5] AM [6] AG [7] S [8] FS [9] F
+ *   CALL ACCEPT             [1] TC [2] SN [3] CH [4] AM [5] AG [6] S [7] F
+ *   RR, RNR, REJECT         [1] SN [2] CH [3] PR
+ *   INTERRUPT               [1] S  [2] F  [3] SN [4] CH
+ *   INTERRUPT CONFIRMATION  [1] SN [2] CH
+ *   RESET                   [1] SN [2] CH [3] RC [4] DC
+ *   RESET CONFIRMATION      [1] SN [2] CH
+ *   ROUTE                   [1] OF [2] IN [3] RTL
+ * The form says the direction of a CALL packet: uplink frames have no place for CH of a CALL
+ * REQUEST and TC of a CALL ACCEPT, downlink frames have none for TC of a CALL REQUEST. What has no
+ * place is 0 too. DATA, CLEAR REQUEST, CALL REQUEST, CALL ACCEPT and INTERRUPT have user data. */
 
 #define PK_PACKET_BYTES 10
 
 #define PK_DATA 0
 #define PK_CLEAR_REQUEST 1
 #define PK_CLEAR_CONFIRMATION 2
+#define PK_CALL_REQUEST 3
+#define PK_CALL_ACCEPT 4
+#define PK_RR 5
+#define PK_RNR 6
+#define PK_REJECT 7
+#define PK_INTERRUPT 8
+#define PK_INTERRUPT_CONFIRMATION 9
+#define PK_RESET 10
+#define PK_RESET_CONFIRMATION 11
+#define PK_ROUTE 12
 
-/* Writes a packet and its user data as one frame to the front of `out`; bytes beyond the frame keep
- * what they held. Bits 8 and up are the frame's length. Refused with 1 (also if `packet` has not 10
- * bytes, and for an unknown kind, a flag over 1, a byte other than 0 that the kind has no use for,
- * and user data with a CONFIRMATION), 23, 13, 5. `user` and `out` are not NULL, even with length
- * 0. */
+/* Writes a packet and its user data as one frame to the front of `out`; bytes beyond the frame
+ * keep what they held. Bits 8 and up are the frame's length. Refused with 1 (also if `packet` has
+ * not 10 bytes, and for an unknown kind, for ROUTE, a flag over 1, a byte other than 0 that the
+ * kind has no use for, and user data with a kind that has none), 23, 13, 5. `user` and `out` are
+ * not NULL, even with length 0. */
 uint64_t pk_frame_write(uint8_t form, const uint8_t *packet, size_t packet_len, const uint8_t *user,
                         size_t user_len, uint8_t *out, size_t out_len);
 #define PK_WRITE_BYTES(answer) ((size_t)((answer) >> 8))
 
-/* Reads a frame into the first 10 bytes of `packet`. Bits 8 to 15 are the index of its user data in
- * the frame: 3 for DATA, 7 for CLEAR REQUEST, and 4 for CLEAR CONFIRMATION, which has no user data.
- * Bits 16 and up are the length of the user data. Refused with 1, 2, 3, 13, 5 (`packet` has fewer
- * than 10 bytes). `frame` is not NULL, even with length 0. */
+/* Writes a ROUTE packet with this table and, if `of` is 1, this optional data, which may be empty,
+ * and answers as pk_frame_write does. The table is not looked into. Refused with 1 (the form, `in`
+ * or `of` over 1, or data although `of` is 0), 23, 13, 5. No list is NULL, even with length 0. */
+uint64_t pk_route_write(uint8_t form, uint8_t in, uint8_t of, const uint8_t *table,
+                        size_t table_len, const uint8_t *data, size_t data_len, uint8_t *out,
+                        size_t out_len);
+
+/* Reads a frame into the first 10 bytes of `packet`. Bits 8 to 15 are the header's length, the
+ * index in the frame where its user data starts; bits 16 and up are the length of the user data.
+ * Of a ROUTE they are 2 and the number of bytes of what follows RTL: the table, RTL bytes of it,
+ * and if OF is 1 a byte with the length of the optional data and the data. Refused with 1, 2, 3,
+ * 13, 5 (`packet` has fewer than 10 bytes). `frame` is not NULL, even with length 0. */
 uint64_t pk_frame_read(uint8_t form, const uint8_t *frame, size_t frame_len, uint8_t *packet,
                        size_t packet_len);
 #define PK_READ_USER_START(answer) ((size_t)((answer) >> 8 & 0xFF))
@@ -182,10 +218,11 @@ uint64_t pk_frame_read(uint8_t form, const uint8_t *frame, size_t frame_len, uin
 /* Where a frame is bad: the byte position, from 0, of what pk_frame_read refuses the same frame
  * for. The answer is the position itself, and nothing is written. Beside refusal
  *    2  the frame's length
- *    3  the first byte in frame order that holds a wrong fixed field, fill, LV or padding, or lies
- *       past the one segment of a CLEAR CONFIRMATION. It is 0 for the first bits of no known
- *       packet, and the header's last byte for a wrong LV (2 in DATA, 6 in CLEAR REQUEST), which
- *       leaves open where padding would begin
+ *    3  the first byte in frame order that holds a wrong fixed field, fill, LV, length of a ROUTE
+ *       or padding, or lies past the segments of a packet without LV. It is 0 for the first bits of
+ *       no known packet; the header's last byte for a wrong LV (2 in DATA and INTERRUPT, 4 in the
+ *       CALL packets, 6 in CLEAR REQUEST), which leaves open where padding would begin; 1 for the
+ *       length of a ROUTE's table, and the byte after the table for that of its optional data
  *   13  the form's largest size: 28, 10 times the segments of a long downlink, 152
  * It is 0 beside 1, and if the frame reads; that includes a 5 of pk_frame_read, which is not known
  * here. `frame` is not NULL, even with length 0. */

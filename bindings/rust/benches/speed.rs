@@ -25,7 +25,7 @@ fn main() {
     println!("{ROUNDS} rounds, library through raw; times in ns per call, ratios as");
     println!("median (first to third quartile)");
     println!(
-        "{:20} {:>8} {:>8} {:>8}   {:22} {:22}",
+        "{:28} {:>8} {:>8} {:>8}   {:22} {:22}",
         "call", "library", "plain", "best", "library/plain", "library/best"
     );
     for call in CALLS {
@@ -67,7 +67,7 @@ fn measure(call: &Call) {
     }
     let [library, plain, best, copied] = &took;
     println!(
-        "{:20} {:8.1} {:8.1} {:8.1}   {:22} {:22}",
+        "{:28} {:8.1} {:8.1} {:8.1}   {:22} {:22}",
         call.name,
         quartiles(library.clone())[1],
         quartiles(plain.clone())[1],
@@ -77,7 +77,7 @@ fn measure(call: &Call) {
     );
     if call.beside_copy {
         println!(
-            "{:20} {:8} copy of 4,096 bytes {:.1} ns, library/copy {}",
+            "{:28} {:8} copy of 4,096 bytes {:.1} ns, library/copy {}",
             "",
             "",
             quartiles(copied.clone())[1],

@@ -1,5 +1,6 @@
-use crate::answer::{unknown, values};
-use crate::{raw, LinkNumber, PacketNumber, Refusal, Refused};
+use crate::answer::values;
+use crate::packet::{Packet, PACKET_BYTES};
+use crate::{raw, Refusal, Refused, Route};
 
 /// The form of a frame: it sets the segment's size and the largest packet.
 ///
@@ -37,121 +38,10 @@ impl Form {
     }
 }
 
-/// A packet's fields. User data is given beside it, as a slice.
-#[derive(Clone, Copy, Debug, PartialEq, Eq, Hash)]
-pub enum Packet {
-    /// DATA.
-    Data {
-        /// More frames of this message follow.
-        m: bool,
-        /// Link sequence number.
-        sn: LinkNumber,
-        /// Packet send sequence number.
-        ps: PacketNumber,
-        /// Packet receive sequence number.
-        pr: PacketNumber,
-        /// Channel, at most 15.
-        ch: u8,
-    },
-    /// CLEAR REQUEST.
-    ClearRequest {
-        /// Temporary channel, at most 3.
-        tc: u8,
-        /// Link sequence number.
-        sn: LinkNumber,
-        /// Channel, at most 15.
-        ch: u8,
-        /// Mobile address, at most 15.
-        am: u8,
-        /// Ground address.
-        ag: u8,
-        /// Clearing cause.
-        cc: u8,
-        /// Diagnostic code.
-        dc: u8,
-        /// The S bit.
-        s: bool,
-        /// The F bit.
-        f: bool,
-    },
-    /// CLEAR CONFIRMATION; it has no user data.
-    ClearConfirmation {
-        /// Temporary channel, at most 3.
-        tc: u8,
-        /// Link sequence number.
-        sn: LinkNumber,
-        /// Channel, at most 15.
-        ch: u8,
-        /// Mobile address, at most 15.
-        am: u8,
-        /// Ground address.
-        ag: u8,
-    },
-}
-
-/// The bytes in which a packet's fields are lent to the library. Those that its kind has no use for
-/// are 0; the library refuses any other value there.
-const PACKET_BYTES: usize = 10;
-
-impl Packet {
-    #[inline]
-    fn to_bytes(self) -> [u8; PACKET_BYTES] {
-        match self {
-            Packet::Data { m, sn, ps, pr, ch } => [0, m.into(), sn.0, ps.0, pr.0, ch, 0, 0, 0, 0],
-            Packet::ClearRequest {
-                tc,
-                sn,
-                ch,
-                am,
-                ag,
-                cc,
-                dc,
-                s,
-                f,
-            } => [1, tc, sn.0, ch, am, ag, cc, dc, s.into(), f.into()],
-            Packet::ClearConfirmation { tc, sn, ch, am, ag } => {
-                [2, tc, sn.0, ch, am, ag, 0, 0, 0, 0]
-            }
-        }
-    }
-
-    #[inline]
-    fn from_bytes(bytes: [u8; PACKET_BYTES]) -> Self {
-        let [kind, b1, b2, b3, b4, b5, b6, b7, b8, b9] = bytes;
-        match kind {
-            0 => Packet::Data {
-                m: b1 != 0,
-                sn: LinkNumber(b2),
-                ps: PacketNumber(b3),
-                pr: PacketNumber(b4),
-                ch: b5,
-            },
-            1 => Packet::ClearRequest {
-                tc: b1,
-                sn: LinkNumber(b2),
-                ch: b3,
-                am: b4,
-                ag: b5,
-                cc: b6,
-                dc: b7,
-                s: b8 != 0,
-                f: b9 != 0,
-            },
-            2 => Packet::ClearConfirmation {
-                tc: b1,
-                sn: LinkNumber(b2),
-                ch: b3,
-                am: b4,
-                ag: b5,
-            },
-            _ => unknown(kind.into()),
-        }
-    }
-}
-
 /// Writes a packet and its user data as one frame to the front of `out`; answers the frame's
-/// length. Bytes beyond the frame keep what they held. Refused with 1 (also for user data with a
-/// CLEAR CONFIRMATION), 23 (the short uplink form), 13, 5.
+/// length. Bytes beyond the frame keep what they held. Refused with 1 (also for a field that the
+/// form has no place for, and for user data with a kind that has none), 23 (the short uplink form),
+/// 13, 5.
 ///
 /// ```
 /// use pepperknoll::{write_frame, Form, LinkNumber, Packet, PacketNumber, Refusal};
@@ -170,6 +60,16 @@ impl Packet {
 /// assert_eq!(refused, Err(Refusal::PacketTooLong));
 /// let refused = write_frame(Form::ShortUplink, &packet, b"four", &mut out);
 /// assert_eq!(refused, Err(Refusal::ShortForm));
+///
+/// let packet = Packet::ReceiveReady {
+///     sn: LinkNumber(5),
+///     ch: 3,
+///     pr: PacketNumber(7),
+/// };
+/// assert_eq!(write_frame(Form::LongUplink, &packet, &[], &mut out), Ok(10));
+/// assert_eq!(out[..4], [0x60, 0x05, 0x37, 0]);
+/// let refused = write_frame(Form::LongUplink, &packet, b"four", &mut out);
+/// assert_eq!(refused, Err(Refusal::OutOfRange));
 /// ```
 #[inline]
 pub fn write_frame(
@@ -195,15 +95,26 @@ pub fn write_frame(
     values(answer).map(|length| length as usize)
 }
 
-/// Reads a frame: its packet, and its user data as a part of the frame. Refused with 1, 2,
-/// 3, 13; the position is that of the first wrong byte for 3, the frame's length for 2, and the
-/// form's largest size for 13.
+/// What a frame holds.
+#[derive(Clone, Copy, Debug, PartialEq, Eq, Hash)]
+pub enum Read<'a> {
+    /// A packet, and its user data as a part of the frame; empty where the kind has none.
+    Packet(Packet, &'a [u8]),
+    /// A ROUTE, whose table and optional data are parts of the frame.
+    Route(Route<'a>),
+}
+
+/// Reads a frame: its packet, and its user data as a part of the frame, or a ROUTE with its table
+/// and data. Refused with 1, 2, 3, 13; the position is that of the first wrong byte for 3, the
+/// frame's length for 2, and the form's largest size for 13.
 ///
 /// ```
-/// use pepperknoll::{read_frame, Form, LinkNumber, Packet, Refusal, Refused};
+/// use pepperknoll::{read_frame, Form, LinkNumber, Packet, Read, Refusal, Refused};
 ///
 /// let mut frame = *b"\x58\x09\x32\x41\x8D\xA2\x09hi\0";
-/// let (packet, user) = read_frame(Form::LongUplink, &frame)?;
+/// let Read::Packet(packet, user) = read_frame(Form::LongUplink, &frame)? else {
+///     panic!("a ROUTE");
+/// };
 /// assert!(matches!(packet, Packet::ClearRequest { sn: LinkNumber(9), cc: 141, .. }));
 /// assert_eq!(user, b"hi");
 /// frame[9] = 1; // padding is 0
@@ -212,7 +123,7 @@ pub fn write_frame(
 /// # Ok::<(), Refused>(())
 /// ```
 #[inline]
-pub fn read_frame(form: Form, frame: &[u8]) -> Result<(Packet, &[u8]), Refused> {
+pub fn read_frame(form: Form, frame: &[u8]) -> Result<Read<'_>, Refused> {
     let mut packet = [0; PACKET_BYTES];
     // SAFETY: each list is lent whole with its own length; the packet's array is new.
     let answer = unsafe {
@@ -226,7 +137,11 @@ pub fn read_frame(form: Form, frame: &[u8]) -> Result<(Packet, &[u8]), Refused> 
     };
     let values = values(answer).map_err(|why| refused(why, form, frame))?;
     let (start, length) = (usize::from(values as u8), (values >> 8) as usize);
-    Ok((Packet::from_bytes(packet), &frame[start..][..length]))
+    let user = &frame[start..][..length];
+    Ok(match packet[0] {
+        Route::KIND => Read::Route(Route::of(packet, user)),
+        _ => Read::Packet(Packet::from_bytes(packet), user),
+    })
 }
 
 /// The position is asked for here alone, so that a frame that reads does not pay for it.

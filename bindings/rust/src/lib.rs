@@ -6,7 +6,8 @@
 //!
 //! - [`Sender`] and [`Receiver`] are the two ends of the flow window (PS and PR, modulo 16).
 //! - [`Resequencer`] puts packets in order by their link number (SN, modulo 64).
-//! - [`write_frame`] and [`read_frame`] turn a [`Packet`] into a frame and back.
+//! - [`write_frame`] and [`read_frame`] turn a [`Packet`] into a frame and back; [`write_route`]
+//!   does so for a [`Route`].
 //! - [`cut`] and [`join`] turn a message into DATA frames and back.
 //! - [`Table`] keeps the interrogators of each ground address; [`choose`] picks one.
 //!
@@ -38,16 +39,20 @@ mod answer;
 mod frame;
 mod message;
 mod number;
+mod packet;
 pub mod raw;
 mod refusal;
 mod resequencer;
 mod route;
+mod route_packet;
 mod window;
 
-pub use frame::{read_frame, write_frame, Form, Packet};
+pub use frame::{read_frame, write_frame, Form, Read};
 pub use message::{cut, join, Cut, Start, LONGEST_MESSAGE};
 pub use number::{LinkNumber, PacketNumber};
+pub use packet::Packet;
 pub use refusal::{Clearing, Refusal, Refused};
 pub use resequencer::{Outcome, Resequencer, Tickets};
 pub use route::{choose, Lost, Table};
+pub use route_packet::{write_route, Route};
 pub use window::{Receiver, Sender};

@@ -11,6 +11,8 @@
 
 #![allow(missing_docs)]
 
+pub use crate::route_packet::pk_route_write;
+
 extern "C" {
     pub fn pk_link_distance(from: u8, to: u8) -> u8;
     pub fn pk_link_next(number: u8) -> u8;
@@ -21,6 +23,9 @@ extern "C" {
     pub fn pk_sender_in_order(state: *const u8, state_len: usize) -> u32;
     pub fn pk_sender_send(state: *mut u8, state_len: usize) -> u32;
     pub fn pk_sender_acknowledge(state: *mut u8, state_len: usize, pr: u8) -> u32;
+    pub fn pk_sender_ready(state: *mut u8, state_len: usize, pr: u8) -> u32;
+    pub fn pk_sender_not_ready(state: *mut u8, state_len: usize, pr: u8) -> u32;
+    pub fn pk_sender_reject(state: *mut u8, state_len: usize, pr: u8) -> u32;
 
     pub fn pk_receiver_fresh(state: *mut u8, state_len: usize) -> u32;
     pub fn pk_receiver_in_order(state: *const u8, state_len: usize) -> u32;

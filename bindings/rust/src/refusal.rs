@@ -31,7 +31,7 @@ pub enum Refusal {
     NoClock = 7,
     /// 8: the ground address has no interrogator.
     NoInterrogator = 8,
-    /// 9: the send window is closed.
+    /// 9: the send window is closed, or held off by RNR.
     WindowClosed = 9,
     /// 10: the received PS is outside the window.
     OutsideWindow = 10,
@@ -149,7 +149,7 @@ impl fmt::Display for Refusal {
             Refusal::RouteListMalformed => "the route list is over 255 bytes or cut",
             Refusal::NoClock => "no clock runs for that number",
             Refusal::NoInterrogator => "the ground address has no interrogator",
-            Refusal::WindowClosed => "the send window is closed",
+            Refusal::WindowClosed => "the send window is closed or held off",
             Refusal::OutsideWindow => "the received PS is outside the window",
             Refusal::OutOfSequence => "the received PS is out of sequence",
             Refusal::FirstNotZero => "the first received PS is not 0",
@@ -170,8 +170,8 @@ impl Error for Refusal {}
 /// The position is one in the frame that was to be read, or in all the data that was to be joined.
 /// It means something beside these refusals only, and is 0 beside any other:
 ///
-/// - 3: the first byte, in frame order, that holds a wrong fixed field, fill, LV or padding, or
-///   lies past the one segment of a CLEAR CONFIRMATION.
+/// - 3: the first byte, in frame order, that holds a wrong fixed field, fill, LV, length of a ROUTE
+///   or padding, or lies past the segments of a packet without LV.
 /// - 2: the length of the frame that is empty or no whole number of segments; in joining, where
 ///   that frame ends.
 /// - 13: the form's largest size; in joining, counted from where the frame starts.

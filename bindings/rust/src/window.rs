@@ -1,7 +1,8 @@
 use crate::answer::values;
 use crate::{raw, PacketNumber, Refusal};
 
-/// The sending end of the flow window: its lower edge and the next PS.
+/// The sending end of the flow window: its lower edge, the next PS, and a mark that stands while an
+/// RNR holds the end off.
 ///
 /// ```
 /// use pepperknoll::{PacketNumber, Refusal, Sender};
@@ -19,10 +20,11 @@ use crate::{raw, PacketNumber, Refusal};
 pub struct Sender([u8; Sender::BYTES]);
 
 impl Sender {
-    /// The bytes of a state: `[0]` lower edge, `[1]` next PS.
-    pub const BYTES: usize = 2;
+    /// The bytes of a state: `[0]` lower edge, `[1]` next PS, `[2]` 1 while an RNR holds the end
+    /// off, else 0.
+    pub const BYTES: usize = 3;
 
-    /// A state that has sent nothing.
+    /// A state that has sent nothing and is not held off.
     #[inline]
     pub fn fresh() -> Self {
         let mut bytes = [0; Self::BYTES];
@@ -38,10 +40,10 @@ impl Sender {
     /// ```
     /// use pepperknoll::{Refusal, Sender};
     ///
-    /// let mut stored = Sender::from_bytes([3, 16]);
+    /// let mut stored = Sender::from_bytes([3, 16, 0]);
     /// assert!(!stored.in_order());
     /// assert_eq!(stored.send(), Err(Refusal::NotInOrder));
-    /// assert_eq!(stored.as_bytes(), &[3, 16]);
+    /// assert_eq!(stored.as_bytes(), &[3, 16, 0]);
     /// ```
     #[inline]
     pub const fn from_bytes(bytes: [u8; Self::BYTES]) -> Self {
@@ -61,7 +63,14 @@ impl Sender {
         unsafe { raw::pk_sender_in_order(self.0.as_ptr(), self.0.len()) == 0 }
     }
 
-    /// Asks for a PS to send the next packet with. Refused with 14, 9.
+    /// Whether an RNR holds the end off.
+    #[inline]
+    pub const fn held_off(&self) -> bool {
+        self.0[2] == 1
+    }
+
+    /// Asks for a PS to send the next packet with. Refused with 14, 9 (the window is closed, or the
+    /// end is held off).
     #[inline]
     pub fn send(&mut self) -> Result<PacketNumber, Refusal> {
         // SAFETY: the state is lent whole, with its own length.
@@ -69,15 +78,61 @@ impl Sender {
         values(answer.into()).map(|ps| PacketNumber(ps as u8))
     }
 
-    /// Takes a PR that came in. Refused with 14, 1, 16.
+    /// Takes the PR of a DATA packet that came in. An end that is held off stays so. Refused with
+    /// 14, 1, 16.
     #[inline]
     pub fn acknowledge(&mut self, pr: PacketNumber) -> Result<(), Refusal> {
+        self.take(raw::pk_sender_acknowledge, pr)
+    }
+
+    /// Takes an RR that came in, by its PR: the end is no longer held off. Refused with 14, 1, 16,
+    /// and then still held off if it was.
+    #[inline]
+    pub fn ready(&mut self, pr: PacketNumber) -> Result<(), Refusal> {
+        self.take(raw::pk_sender_ready, pr)
+    }
+
+    /// Takes an RNR that came in, by its PR: nothing can be sent until an RR or a REJECT comes.
+    /// Refused with 14, 1, 16.
+    ///
+    /// ```
+    /// use pepperknoll::{PacketNumber, Refusal, Sender};
+    ///
+    /// let mut end = Sender::fresh();
+    /// assert_eq!(end.send(), Ok(PacketNumber(0)));
+    /// end.not_ready(PacketNumber(1))?;
+    /// assert!(end.held_off());
+    /// assert_eq!(end.send(), Err(Refusal::WindowClosed));
+    /// end.acknowledge(PacketNumber(1))?; // a PR that comes with DATA does not lift the hold
+    /// assert_eq!(end.send(), Err(Refusal::WindowClosed));
+    /// end.ready(PacketNumber(1))?;
+    /// assert_eq!(end.send(), Ok(PacketNumber(1)));
+    /// # Ok::<(), Refusal>(())
+    /// ```
+    #[inline]
+    pub fn not_ready(&mut self, pr: PacketNumber) -> Result<(), Refusal> {
+        self.take(raw::pk_sender_not_ready, pr)
+    }
+
+    /// Takes a REJECT that came in, by its PR: the end is no longer held off, and the next PS stays
+    /// as it is. Refused with 14, 1, 16.
+    #[inline]
+    pub fn reject(&mut self, pr: PacketNumber) -> Result<(), Refusal> {
+        self.take(raw::pk_sender_reject, pr)
+    }
+
+    /// One of the four calls that take a PR.
+    #[inline]
+    fn take(&mut self, call: TakePr, pr: PacketNumber) -> Result<(), Refusal> {
         let state = &mut self.0;
         // SAFETY: the state is lent whole, with its own length.
-        let answer = unsafe { raw::pk_sender_acknowledge(state.as_mut_ptr(), state.len(), pr.0) };
+        let answer = unsafe { call(state.as_mut_ptr(), state.len(), pr.0) };
         values(answer.into()).map(|_| ())
     }
 }
+
+/// A call on a sending end, as the library declares it.
+type TakePr = unsafe extern "C" fn(state: *mut u8, state_len: usize, pr: u8) -> u32;
 
 impl Default for Sender {
     fn default() -> Self {

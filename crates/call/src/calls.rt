@@ -71,7 +71,16 @@ fn change(call: u8, state: &mut [u8], number: u8) -> u32 {
     }
 }
 
-// The calls with several lists.
+// The calls for RR, RNR and REJECT.
+fn flow(call: u8, state: &mut [u8], pr: u8) -> u32 {
+    match call {
+        b'c' => capi::pk_sender_ready(state, pr),
+        b'd' => capi::pk_sender_not_ready(state, pr),
+        _ => capi::pk_sender_reject(state, pr),
+    }
+}
+
+// The calls with several lists, and those with letters in lower case.
 fn several(call: u8, a: &mut [u8], b: &mut [u8], c: &mut [u8], values: &Values) -> u64 {
     match call {
         b'T' | b'U' => release(call, a, c, values) as u64,
@@ -79,8 +88,18 @@ fn several(call: u8, a: &mut [u8], b: &mut [u8], c: &mut [u8], values: &Values) 
         b'W' => capi::pk_frame_read(small(values, 1), a, b),
         b'X' | b'Y' | b'b' => message(call, a, b, c, values),
         b'a' => capi::pk_frame_fault(small(values, 1), a) as u64,
+        b'c' | b'd' | b'e' => flow(call, a, small(values, 2)) as u64,
+        b'f' => route(a, b, c, values),
         _ => capi::pk_table_update(a, b, c) as u64,
     }
+}
+
+// The call that writes a ROUTE: form, IN and OF come first.
+fn route(table: &[u8], extra: &[u8], out: &mut [u8], values: &Values) -> u64 {
+    let form = small(values, 1);
+    let initial = small(values, 2);
+    let optional = small(values, 3);
+    capi::pk_route_write(form, initial, optional, table, extra, out)
 }
 
 // The two calls that let tickets go.

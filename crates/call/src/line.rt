@@ -50,7 +50,11 @@ fn find_call(line: &[u8], number: u64, ending: &mut u8) {
         pk_message_join Y8nlaB\n\
         pk_table_update Z4AbC\n\
         pk_frame_fault a0na\n\
-        pk_message_fault b0nlaw\n";
+        pk_message_fault b0nlaw\n\
+        pk_sender_ready c4An\n\
+        pk_sender_not_ready d4An\n\
+        pk_sender_reject e4An\n\
+        pk_route_write f8nnnabC\n";
     let end = text::find(line, 0, line.len(), b' ');
     let start = text::row(table, &line[0..end]);
     if table.len() <= start {

@@ -13,10 +13,12 @@
 ghost use mathlib.Core.Path.{_≡_};
 ghost use lib.ListN.{length};
 ghost use Rattle.sequence.specs.Modular.{distance, next};
-ghost use Rattle.window_bytes.specs.Stored.{freshSenderAnswer, freshSenderBytes, senderOrderAnswer, sendAnswer, sendBytes, acknowledgeAnswer, acknowledgeBytes, freshReceiverAnswer, freshReceiverBytes, receiverOrderAnswer, receiveAnswer, receiveBytes, tellAnswer, tellBytes};
+ghost use Rattle.window.specs.History.{byData, ready, notReady, reject};
+ghost use Rattle.window_bytes.specs.Stored.{freshSenderAnswer, freshSenderBytes, senderOrderAnswer, sendAnswer, sendBytes, prAnswer, prBytes, freshReceiverAnswer, freshReceiverBytes, receiverOrderAnswer, receiveAnswer, receiveBytes, tellAnswer, tellBytes};
 ghost use Rattle.resequencer_bytes.specs.Stored.{freshAnswer, freshBytes, orderAnswer, arriveAnswer, arriveBytes, arriveTickets, clockEndAnswer, clockEndBytes, clockEndTickets};
 ghost use Rattle.frame_form.specs.Forms.{formAt};
 ghost use Rattle.frame_writer.specs.Writing.{writeAnswer, writeBytes};
+ghost use Rattle.frame_writer.specs.Routes.{routeAnswer, routeBytes};
 ghost use Rattle.frame_reader.specs.Reading.{faultAnswer, readAnswer, readBytes};
 ghost use Rattle.message.specs.Cutting.{cutOf, cutOutput, cutLengths};
 ghost use Rattle.message.specs.Joining.{joinedPosition, joinOf, joinOutput};
@@ -64,7 +66,8 @@ pub extern "C" fn pk_packet_next(number: u8) -> u8
     after.0
 }
 
-// ---- the flow window, sending end: 2 bytes, the lower edge and the next PS
+// ---- the flow window, sending end: 3 bytes, the lower edge, the next PS, and 1 while an RNR holds
+// the end off, else 0
 
 // Writes a sending end that has sent nothing, whatever the bytes were. There is no value. Refused
 // with 14.
@@ -84,7 +87,8 @@ pub extern "C" fn pk_sender_in_order(state: &[u8]) -> u32
     window_bytes::sender_in_order(state)
 }
 
-// Asks for the PS of the next packet: bits 8 to 15. Refused with 14, 9.
+// Asks for the PS of the next packet: bits 8 to 15. Refused with 14, 9 (the window is closed, or
+// the end is held off).
 #[no_mangle]
 pub extern "C" fn pk_sender_send(state: &mut [u8]) -> u32
     ensures { λ r. ⌜ r ≡ sendAnswer (now (state .entry)) ⌝ }
@@ -93,13 +97,42 @@ pub extern "C" fn pk_sender_send(state: &mut [u8]) -> u32
     window_bytes::sender_send(state)
 }
 
-// Takes a received PR, which becomes the lower edge. There is no value. Refused with 14, 1, 16.
+// Takes the PR of received DATA, which becomes the lower edge; the mark stays as it is. There is no
+// value. Refused with 14, 1, 16.
 #[no_mangle]
 pub extern "C" fn pk_sender_acknowledge(state: &mut [u8], pr: u8) -> u32
-    ensures { λ r. ⌜ r ≡ acknowledgeAnswer (now (state .entry)) pr ⌝ }
-    ensures { λ _. ⌜ now (state .exit) ≡ acknowledgeBytes (now (state .entry)) pr ⌝ }
+    ensures { λ r. ⌜ r ≡ prAnswer byData (now (state .entry)) pr ⌝ }
+    ensures { λ _. ⌜ now (state .exit) ≡ prBytes byData (now (state .entry)) pr ⌝ }
 {
     window_bytes::sender_acknowledge(state, pr)
+}
+
+// Takes the PR of a received RR, and lifts the mark. There is no value. Refused with 14, 1, 16.
+#[no_mangle]
+pub extern "C" fn pk_sender_ready(state: &mut [u8], pr: u8) -> u32
+    ensures { λ r. ⌜ r ≡ prAnswer ready (now (state .entry)) pr ⌝ }
+    ensures { λ _. ⌜ now (state .exit) ≡ prBytes ready (now (state .entry)) pr ⌝ }
+{
+    window_bytes::sender_ready(state, pr)
+}
+
+// Takes the PR of a received RNR, and sets the mark. There is no value. Refused with 14, 1, 16.
+#[no_mangle]
+pub extern "C" fn pk_sender_not_ready(state: &mut [u8], pr: u8) -> u32
+    ensures { λ r. ⌜ r ≡ prAnswer notReady (now (state .entry)) pr ⌝ }
+    ensures { λ _. ⌜ now (state .exit) ≡ prBytes notReady (now (state .entry)) pr ⌝ }
+{
+    window_bytes::sender_not_ready(state, pr)
+}
+
+// Takes the PR of a received REJECT, and lifts the mark; the next PS stays as it is. There is no
+// value. Refused with 14, 1, 16.
+#[no_mangle]
+pub extern "C" fn pk_sender_reject(state: &mut [u8], pr: u8) -> u32
+    ensures { λ r. ⌜ r ≡ prAnswer reject (now (state .entry)) pr ⌝ }
+    ensures { λ _. ⌜ now (state .exit) ≡ prBytes reject (now (state .entry)) pr ⌝ }
+{
+    window_bytes::sender_reject(state, pr)
 }
 
 // ---- the flow window, receiving end: 3 bytes, the expected PS, the first-packet mark as 0 or 1,
@@ -197,8 +230,8 @@ pub extern "C" fn pk_resequencer_clock_end(state: &mut [u8], tickets: &mut [u16]
 
 // Writes a packet and its user data as one frame to the front of `out`; bytes beyond the frame keep
 // what they held. Bits 8 and up are the frame's length. Refused with 1 (a packet that has not 10
-// bytes, a kind, a form or a field that is not valid, a byte that the kind has no use for and that
-// is not 0, or user data with a CLEAR CONFIRMATION), 23 (the short uplink), 13, 5.
+// bytes, a kind, a form or a field that is not valid, ROUTE, a byte that the kind has no use for
+// and that is not 0, or user data with a kind that has none), 23 (the short uplink), 13, 5.
 #[no_mangle]
 pub extern "C" fn pk_frame_write(form: u8, packet: &[u8], user: &[u8], out: &mut [u8]) -> u64
     ensures { λ r. ⌜ r ≡ writeAnswer form (now (packet .entry)) (length (now (user .entry))) (length (now (out .entry))) ⌝ }
@@ -207,9 +240,28 @@ pub extern "C" fn pk_frame_write(form: u8, packet: &[u8], user: &[u8], out: &mut
     frame_writer::write(form, packet, user, out)
 }
 
+// Writes a ROUTE packet with its table and, if `optional` (OF) is 1, its optional data, which may
+// be empty, as one frame to the front of `out`; bytes beyond the frame keep what they held.
+// `initial` is IN. Bits 8 and up are the frame's length. Refused with 1 (the form, IN or OF over 1,
+// or data although OF is 0), 23 (the short uplink), 13, 5.
+#[no_mangle]
+pub extern "C" fn pk_route_write(
+    form: u8,
+    initial: u8,
+    optional: u8,
+    table: &[u8],
+    extra: &[u8],
+    out: &mut [u8],
+) -> u64
+    ensures { λ r. ⌜ r ≡ routeAnswer form optional initial (length (now (table .entry))) (length (now (extra .entry))) (length (now (out .entry))) ⌝ }
+    ensures { λ _. ⌜ now (out .exit) ≡ routeBytes form optional initial (now (table .entry)) (now (extra .entry)) (now (out .entry)) ⌝ }
+{
+    frame_writer::write_route(form, optional, initial, table, extra, out)
+}
+
 // Reads a frame and writes its packet to the first 10 bytes of `packet`. Bits 8 to 15 are the index
-// in `frame` where the user data starts, bits 16 and up its length. Refused with 1 (the form), 2,
-// 3, 13, 5 (fewer than 10 bytes).
+// in `frame` where the user data starts, bits 16 and up its length; of a ROUTE, those of what
+// follows RTL. Refused with 1 (the form), 2, 3, 13, 5 (fewer than 10 bytes).
 #[no_mangle]
 pub extern "C" fn pk_frame_read(form: u8, frame: &[u8], packet: &mut [u8]) -> u64
     ensures { λ r. ⌜ r ≡ readAnswer form (now (frame .entry)) (length (now (packet .entry))) ⌝ }
@@ -220,8 +272,8 @@ pub extern "C" fn pk_frame_read(form: u8, frame: &[u8], packet: &mut [u8]) -> u6
 
 // Where a frame is bad: answers the position in `frame` of what `pk_frame_read` refuses it for, and
 // no refusal number. For 2 it is the frame's length, for 3 the first byte with a wrong fixed field,
-// fill, LV or padding or past the segments of a packet without LV, for 13 the form's largest size;
-// 0 for 1, and if the frame reads.
+// fill, LV, length of a ROUTE or padding or past the segments of a packet without LV, for 13 the
+// form's largest size; 0 for 1, and if the frame reads.
 #[no_mangle]
 pub extern "C" fn pk_frame_fault(form: u8, frame: &[u8]) -> usize
     ensures { λ r. ⌜ r ≡ faultAnswer form (now (frame .entry)) ⌝ }

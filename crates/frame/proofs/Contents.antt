@@ -4,12 +4,12 @@
 use mathlib.Core.Path.{_≡_, refl, sym, ap, _∙_}
 use mathlib.Core.Bool.{Bool, true, false, cond, _&&_, true≢false}
 use mathlib.Core.List.{List, _++_}
-use Prim.Native.Nat.{ℕ, _+_, _-_, _%_, _≤_}
+use Prim.Native.Nat.{ℕ, _+_, _-_, _%_, _<_, _≤_}
 use native.Mathlib.Omega.{arith}
-use lib.Dec.{leb, eqb}
-use lib.ListN.{length, take, drop, replicate, length-drop, take-append-drop}
+use lib.Dec.{leb, ltb, eqb}
+use lib.ListN.{length, getD, take, drop, replicate, length-drop, take-append-drop}
 use lib.Seq.{drop-drop, length-take-le}
-use borrow.Author.Tests.{le-leb, leb-true, lt-ltb, le-ltb, eqb-true, eqb-false}
+use borrow.Author.Tests.{le-leb, leb-true, lt-ltb, le-ltb, ltb-true, eqb-true, eqb-false}
 use Rattle.refusal.proofs.Checks.{both-true}
 use Rattle.frame_fields.specs.Rows.{pack, unpack, eights, bytesOf, numberIn, AreBytes}
 use Rattle.frame_fields.specs.Layouts.{Layout, fields, widths, hasLv, allValues, within, header, headerNumber, valuesIn, freeValues, lvIn, firstWrong, wrongByte}
@@ -20,10 +20,10 @@ use Rattle.frame_fields.proofs.Masks.{eights-total, wrong-none, wrong-some}
 use Rattle.frame_fields.proofs.Tags.{Sound}
 use Rattle.frame_form.specs.Segments.{padding, lastUsed, frameLength}
 use Rattle.frame_form.specs.Frames.{framed, allZero}
-use Rattle.frame_form.proofs.Segments.{used-range, length-less, used-back, length-back}
+use Rattle.frame_form.proofs.Segments.{used-range, length-less, used-back, length-back, frame-end}
 use Rattle.frame_form.proofs.Frames.{framed-length, head-of, zeros-of, zero-zeros}
-use Rattle.frame_reader.specs.Faults.{lvOf, packetLength, lvRight, tailFault, firstFault}
-use Rattle.frame_reader.proofs.Cases.{one-segment}
+use Rattle.frame_reader.specs.Faults.{lvOf, lastOf, firstEnd, hasSecond, stringsEnd, firstRight, packetLength, lengthRight, lengthByte, tailFault, firstFault}
+use Rattle.frame_reader.proofs.Cases.{ends-after}
 use Rattle.frame_reader.proofs.Zeros.{count-le, all-after, some-after}
 
 pub header-length : (l : Layout) (u : ℕ) (vs : List ℕ) → length (header l u vs) ≡ l .size
@@ -35,13 +35,43 @@ frameAs seg l vs user = framed seg (header l (lastUsed seg (l .size + length use
 
 -- ---- the parts of the first fault
 
--- a header without a wrong field, a right LV, zeros to the end of the packet's segments
-no-fault : (seg n : ℕ) (l : Layout) (frame : List ℕ) → wrongByte l frame ≡ l .size → lvRight seg l frame ≡ true → packetLength seg l frame ≡ n
+-- a header without a wrong field, a right LV or lengths, zeros to the end of the packet's segments
+no-fault : (seg n : ℕ) (l : Layout) (frame : List ℕ) → wrongByte l frame ≡ l .size → lengthRight seg l frame ≡ true → packetLength seg l frame ≡ n
     → frameLength seg n ≡ length frame → n ≤ length frame → allZero (drop n frame) ≡ true → firstFault seg l frame ≡ length frame
 unfolding firstFault tailFault
 no-fault seg n l frame right lv en fills inside zeros =
     rw (right, le-ltb (l .size) (l .size) (omega arith), lv, en)
     (omega (arith, fills, inside, all-after n frame zeros, count-le (drop n frame), length-drop n frame))
+
+-- strings give the length and whether it is right
+strings-length : (seg : ℕ) (l : Layout) (frame : List ℕ) → l .strings ≡ true → packetLength seg l frame ≡ stringsEnd l frame
+unfolding packetLength
+strings-length seg l frame es = ap (λ (b : Bool). cond b (stringsEnd l frame) (cond (hasLv (fields l)) (length frame - seg + lvOf l frame) (l .size))) es
+
+strings-right : (seg : ℕ) (l : Layout) (frame : List ℕ) → l .strings ≡ true
+    → lengthRight seg l frame ≡ (firstRight l frame && leb (stringsEnd l frame) (length frame))
+unfolding lengthRight
+strings-right seg l frame es =
+    ap (λ (b : Bool). cond b (firstRight l frame && leb (stringsEnd l frame) (length frame))
+    (cond (hasLv (fields l)) (leb 1 (lvOf l frame) && (leb (lvOf l frame) seg && leb (l .size) (length frame - seg + lvOf l frame))) true)) es
+
+-- a length that is wrong is in the frame
+byte-lt : (seg : ℕ) (l : Layout) (frame : List ℕ) → 1 ≤ l .size → l .size ≤ length frame → lengthRight seg l frame ≡ false → lengthByte l frame < length frame
+unfolding lengthByte
+byte-lt seg l frame one few wrong = go (l .strings) (hasSecond l frame) (firstRight l frame) refl refl refl
+  where
+    go : (a b t : Bool) → l .strings ≡ a → hasSecond l frame ≡ b → firstRight l frame ≡ t
+        → cond (l .strings && firstRight l frame) (firstEnd l frame) (l .size - 1) < length frame
+    go false b t ea eb et = rw ea (omega (arith, one, few))
+    go true b false ea eb et = rw (ea, et) (omega (arith, one, few))
+    go true true true ea eb et =
+        let low : ltb (firstEnd l frame) (length frame) ≡ true = sym (ap (λ (x : Bool). cond x (ltb (firstEnd l frame) (length frame)) (leb (firstEnd l frame) (length frame))) eb) ∙ et in
+        rw (ea, et) (ltb-true (firstEnd l frame) (length frame) low)
+    go true false true ea eb et =
+        let low : leb (firstEnd l frame) (length frame) ≡ true = sym (ap (λ (x : Bool). cond x (ltb (firstEnd l frame) (length frame)) (leb (firstEnd l frame) (length frame))) eb) ∙ et in
+        let end : stringsEnd l frame ≡ firstEnd l frame = ap (λ (x : Bool). cond x (firstEnd l frame + 1 + getD frame (firstEnd l frame) 0) (firstEnd l frame)) eb in
+        let right : (firstRight l frame && leb (stringsEnd l frame) (length frame)) ≡ true = rw (et, end) low in
+        absurd (true≢false (sym right ∙ sym (strings-right seg l frame ea) ∙ wrong))
 
 -- ---- written, then read
 
@@ -55,11 +85,12 @@ module _ (seg : ℕ) (l : Layout) (sound : Sound 15 l) (some : 1 ≤ seg) (few :
       ∙ re-read (widths (fields l)) (eights (l .size)) (allValues (fields l) u vs) (sound .bits)
       (values-range 15 u (fields l) vs (omega (arith, few, used-range seg (l .size + length user) some .1)) (sound .values) fit)
 
-  -- LV gives the packet's length, or there is no user data
-  pub content-good : (hasLv (fields l) ≡ false → length user ≡ 0)
+  -- LV gives the packet's length, or the strings do, or there is no user data
+  pub content-good : (l .strings ≡ false → hasLv (fields l) ≡ false → length user ≡ 0)
+      → (l .strings ≡ true → (firstRight l (frameAs seg l vs user) ≡ true) × (stringsEnd l (frameAs seg l vs user) ≡ l .size + length user))
       → (firstFault seg l (frameAs seg l vs user) ≡ length (frameAs seg l vs user)) × (packetLength seg l (frameAs seg l vs user) ≡ l .size + length user)
-  unfolding packetLength lvRight
-  content-good no-data = go (hasLv (fields l)) refl
+  unfolding packetLength lengthRight
+  content-good no-data by-strings = go (l .strings) (hasLv (fields l)) refl refl
     where
       n : ℕ
       n = l .size + length user
@@ -85,16 +116,21 @@ module _ (seg : ℕ) (l : Layout) (sound : Sound 15 l) (some : 1 ≤ seg) (few :
       right : wrongByte l frame ≡ l .size
       right = ap (λ (xs : List ℕ). firstWrong (fields l) 0 xs (l .size)) values-back ∙ right-none (fields l) 0 u (l .size) (allValues (fields l) u vs) (right-back u (fields l) vs)
 
-      go : (b : Bool) → hasLv (fields l) ≡ b → (firstFault seg l frame ≡ length frame) × (packetLength seg l frame ≡ n)
-      go true e =
-          let lv-is : lvOf l frame ≡ u = ap (lvIn (fields l)) values-back ∙ lv-back u (fields l) vs e in
-          let packet : packetLength seg l frame ≡ n = rw (e, lv-is) back in
-          let good : lvRight seg l frame ≡ true = rw (e, lv-is, le-leb 1 u (range .0), le-leb u seg (range .1)) (le-leb (l .size) (length frame - seg + u) (omega (arith, back))) in
+      go : (a b : Bool) → l .strings ≡ a → hasLv (fields l) ≡ b → (firstFault seg l frame ≡ length frame) × (packetLength seg l frame ≡ n)
+      go true b es e =
+          let p = by-strings es in
+          let packet : packetLength seg l frame ≡ n = strings-length seg l frame es ∙ p .1 in
+          let good : lengthRight seg l frame ≡ true = strings-right seg l frame es ∙ rw (p .0, p .1) (le-leb n (length frame) (omega (arith, len))) in
           (no-fault seg n l frame right good packet (sym len) (omega (arith, len)) zeros, packet)
-      go false e =
-          let none : n ≡ l .size = omega (arith, no-data e) in
-          let packet : packetLength seg l frame ≡ n = rw e (sym none) in
-          let good : lvRight seg l frame ≡ true = rw e in
+      go false true es e =
+          let lv-is : lvOf l frame ≡ u = ap (lvIn (fields l)) values-back ∙ lv-back u (fields l) vs e in
+          let packet : packetLength seg l frame ≡ n = rw (es, e, lv-is) back in
+          let good : lengthRight seg l frame ≡ true = rw (es, e, lv-is, le-leb 1 u (range .0), le-leb u seg (range .1)) (le-leb (l .size) (length frame - seg + u) (omega (arith, back))) in
+          (no-fault seg n l frame right good packet (sym len) (omega (arith, len)) zeros, packet)
+      go false false es e =
+          let none : n ≡ l .size = omega (arith, no-data es e) in
+          let packet : packetLength seg l frame ≡ n = rw (es, e) (sym none) in
+          let good : lengthRight seg l frame ≡ true = rw (es, e) in
           (no-fault seg n l frame right good packet (sym len) (omega (arith, len)) zeros, packet)
 
 -- ---- read, then written
@@ -106,7 +142,7 @@ pub free-in-range : (l : Layout) (frame : List ℕ) → within (fields l) (freeI
 free-in-range l frame = free-within (fields l) (valuesIn l frame) (unpack-range (widths (fields l)) (numberIn (l .size) frame))
 
 module _ (seg : ℕ) (l : Layout) (sound : Sound 15 l) (some : 1 ≤ seg) (fits : l .size ≤ seg) (frame : List ℕ) (more : seg ≤ length frame) (multiple : length frame % seg ≡ 0)
-    (good : firstFault seg l frame ≡ length frame) where
+    (plain : l .strings ≡ true → hasLv (fields l) ≡ false) (good : firstFault seg l frame ≡ length frame) where
   n : ℕ
   n = packetLength seg l frame
 
@@ -120,21 +156,21 @@ module _ (seg : ℕ) (l : Layout) (sound : Sound 15 l) (some : 1 ≤ seg) (fits 
       go false e =
           let low = wrong-some l (sound .bits) (sound .bytewise) frame (eqb-false (wrongBits (fields l) (numberIn (l .size) frame)) 0 e) in
           let at : wrongByte l frame ≡ length frame =
-          sym (ap (λ (b : Bool). cond b (wrongByte l frame) (cond (lvRight seg l frame) (tailFault seg (packetLength seg l frame) frame) (l .size - 1))) (lt-ltb (wrongByte l frame) (l .size) low)) ∙ good in
+          sym (ap (λ (b : Bool). cond b (wrongByte l frame) (cond (lengthRight seg l frame) (tailFault seg (packetLength seg l frame) frame) (lengthByte l frame))) (lt-ltb (wrongByte l frame) (l .size) low)) ∙ good in
           absurd (omega (arith, at, low, fits, more))
 
   -- LV is right, and the tail
-  tail : (lvRight seg l frame ≡ true) × (tailFault seg n frame ≡ length frame)
+  tail : (lengthRight seg l frame ≡ true) × (tailFault seg n frame ≡ length frame)
   unfolding firstFault n
-  tail = go (lvRight seg l frame) refl
+  tail = go (lengthRight seg l frame) refl
     where
-      past : (b : Bool) → lvRight seg l frame ≡ b → cond b (tailFault seg (packetLength seg l frame) frame) (l .size - 1) ≡ length frame
+      past : (b : Bool) → lengthRight seg l frame ≡ b → cond b (tailFault seg (packetLength seg l frame) frame) (lengthByte l frame) ≡ length frame
       past b e =
           sym (rw (right, le-ltb (l .size) (l .size) (omega arith), e)) ∙ good
 
-      go : (b : Bool) → lvRight seg l frame ≡ b → (lvRight seg l frame ≡ true) × (tailFault seg (packetLength seg l frame) frame ≡ length frame)
+      go : (b : Bool) → lengthRight seg l frame ≡ b → (lengthRight seg l frame ≡ true) × (tailFault seg (packetLength seg l frame) frame ≡ length frame)
       go true e = (e, past true e)
-      go false e = absurd (omega (arith, past false e, fits, more, sound .bytes))
+      go false e = absurd (omega (arith, past false e, byte-lt seg l frame (sound .bytes) (omega (arith, fits, more)) e))
 
   -- the padding is 0
   zeros : allZero (drop n frame) ≡ true
@@ -157,41 +193,69 @@ module _ (seg : ℕ) (l : Layout) (sound : Sound 15 l) (some : 1 ≤ seg) (fits 
       (none-right (fields l) 0 (lvIn (fields l) ys) (l .size) ys (unpack-range (widths (fields l)) (numberIn (l .size) frame)) (sound .bytewise) (sound .single) (λ h. refl)
       (omega (arith, sound .bits, eights-total (l .size))) right)
 
-  sizes : (l .size ≤ n) × (frameLength seg n ≡ length frame) × (allValues (fields l) (lastUsed seg n) (freeIn l frame) ≡ xs) × (hasLv (fields l) ≡ false → n ≡ l .size)
-  unfolding n xs packetLength lvRight tailFault
-  sizes = go (hasLv (fields l)) refl
+  abbrev Sizes : Type 0
+  Sizes = (l .size ≤ packetLength seg l frame) × (frameLength seg (packetLength seg l frame) ≡ length frame)
+      × (allValues (fields l) (lastUsed seg (packetLength seg l frame)) (freeIn l frame) ≡ valuesIn l frame)
+      × (l .strings ≡ false → hasLv (fields l) ≡ false → packetLength seg l frame ≡ l .size)
+
+  t : ℕ
+  t = lvIn (fields l) (valuesIn l frame)
+
+  -- with strings
+  by-strings : l .strings ≡ true → Sizes
+  unfolding n xs tailFault t
+  by-strings es =
+      let en = strings-length seg l frame es in
+      let ok : (firstRight l frame && leb (stringsEnd l frame) (length frame)) ≡ true = sym (strings-right seg l frame es) ∙ tail .0 in
+      let a = both-true (firstRight l frame) (leb (stringsEnd l frame) (length frame)) ok in
+      let inside : packetLength seg l frame ≤ length frame = omega (arith, en, leb-true (stringsEnd l frame) (length frame) (a .1)) in
+      let end = frame-end seg (length frame) (packetLength seg l frame) some multiple inside in (
+        omega (arith, en, ends-after (hasSecond l frame) (l .size) (lastOf (freeValues (fields l) (valuesIn l frame))) (getD frame (firstEnd l frame) 0)),
+        omega (arith, tail .1, end),
+        no-lv (lastUsed seg (packetLength seg l frame)) (lvIn (fields l) (valuesIn l frame)) (fields l) (freeIn l frame) (plain es) ∙ again,
+        λ f. absurd (true≢false (sym es ∙ f)),
+      )
+
+  -- with LV
+  by-lv : l .strings ≡ false → hasLv (fields l) ≡ true → Sizes
+  unfolding n xs packetLength lengthRight tailFault t
+  by-lv es e =
+      let en : length frame - seg + t ≡ packetLength seg l frame = sym (rw (es, e)) in
+      let ok : (leb 1 t && (leb t seg && leb (l .size) (length frame - seg + t))) ≡ true = sym (rw (es, e)) ∙ tail .0 in
+      let a = both-true (leb 1 t) (leb t seg && leb (l .size) (length frame - seg + t)) ok in
+      let b = both-true (leb t seg) (leb (l .size) (length frame - seg + t)) (a .1) in
+      let lo : 1 ≤ t = leb-true 1 t (a .0) in
+      let hi : t ≤ seg = leb-true t seg (b .0) in
+      let one : 1 ≤ length frame = omega (arith, more, some) in (
+        omega (arith, leb-true (l .size) (length frame - seg + t) (b .1), en),
+        ap (frameLength seg) (sym en) ∙ length-back seg (length frame) t multiple one lo hi,
+        ap (λ (x : ℕ). allValues (fields l) x (freeIn l frame)) (ap (lastUsed seg) (sym en) ∙ used-back seg (length frame) t multiple one lo hi) ∙ again,
+        λ f g. absurd (true≢false (sym e ∙ g)),
+      )
+
+  -- with neither
+  by-header : l .strings ≡ false → hasLv (fields l) ≡ false → Sizes
+  unfolding n xs packetLength tailFault t
+  by-header es e =
+      let en : l .size ≡ packetLength seg l frame = sym (rw (es, e)) in
+      let inside : packetLength seg l frame ≤ length frame = omega (arith, en, fits, more) in
+      let end = frame-end seg (length frame) (packetLength seg l frame) some multiple inside in (
+        omega (arith, en),
+        omega (arith, tail .1, end),
+        no-lv (lastUsed seg (packetLength seg l frame)) t (fields l) (freeIn l frame) e ∙ again,
+        λ f g. sym en,
+      )
+
+  sizes : Sizes
+  sizes = go (l .strings) (hasLv (fields l)) refl refl
     where
-      t : ℕ
-      t = lvIn (fields l) (valuesIn l frame)
+      go : (a b : Bool) → l .strings ≡ a → hasLv (fields l) ≡ b → Sizes
+      go true b es e = by-strings es
+      go false true es e = by-lv es e
+      go false false es e = by-header es e
 
-      go : (b : Bool) → hasLv (fields l) ≡ b → (l .size ≤ packetLength seg l frame) × (frameLength seg (packetLength seg l frame) ≡ length frame)
-          × (allValues (fields l) (lastUsed seg (packetLength seg l frame)) (freeIn l frame) ≡ valuesIn l frame) × (hasLv (fields l) ≡ false → packetLength seg l frame ≡ l .size)
-      go true e =
-          let en : length frame - seg + t ≡ packetLength seg l frame = sym (ap (λ (b : Bool). cond b (length frame - seg + t) (l .size)) e) in
-          let ok : (leb 1 t && (leb t seg && leb (l .size) (length frame - seg + t))) ≡ true =
-          sym (ap (λ (b : Bool). cond b (leb 1 t && (leb t seg && leb (l .size) (length frame - seg + t))) true) e) ∙ tail .0 in
-          let a = both-true (leb 1 t) (leb t seg && leb (l .size) (length frame - seg + t)) ok in
-          let b = both-true (leb t seg) (leb (l .size) (length frame - seg + t)) (a .1) in
-          let lo : 1 ≤ t = leb-true 1 t (a .0) in
-          let hi : t ≤ seg = leb-true t seg (b .0) in
-          let one : 1 ≤ length frame = omega (arith, more, some) in (
-            omega (arith, leb-true (l .size) (length frame - seg + t) (b .1), en),
-            ap (frameLength seg) (sym en) ∙ length-back seg (length frame) t multiple one lo hi,
-            ap (λ (x : ℕ). allValues (fields l) x (freeIn l frame)) (ap (lastUsed seg) (sym en) ∙ used-back seg (length frame) t multiple one lo hi) ∙ again,
-            λ f. absurd (true≢false (sym e ∙ f)),
-          )
-      go false e =
-          let en : l .size ≡ packetLength seg l frame = sym (ap (λ (b : Bool). cond b (length frame - seg + t) (l .size)) e) in
-          let one = one-segment seg (l .size) (sound .bytes) fits in
-          let least : frameLength seg (packetLength seg l frame) ≡ seg = ap (frameLength seg) (sym en) ∙ one in (
-            omega (arith, en),
-            omega (arith, tail .1, least, more),
-            no-lv (lastUsed seg (packetLength seg l frame)) t (fields l) (freeIn l frame) e ∙ again,
-            λ f. sym en,
-          )
-
-  -- the packet is no longer than the frame and no shorter than its header; without LV it is just its
-  -- header
+  -- the packet is no longer than the frame and no shorter than its header; without LV and strings
+  -- it is just its header
   pub inside : (l .size ≤ packetLength seg l frame) × (packetLength seg l frame ≤ length frame)
   unfolding n
   inside = (sizes .0, omega (arith, sizes .1))
@@ -200,7 +264,7 @@ module _ (seg : ℕ) (l : Layout) (sound : Sound 15 l) (some : 1 ≤ seg) (fits 
   unfolding n
   frame-fills = sizes .1
 
-  pub header-only : hasLv (fields l) ≡ false → packetLength seg l frame ≡ l .size
+  pub header-only : l .strings ≡ false → hasLv (fields l) ≡ false → packetLength seg l frame ≡ l .size
   unfolding n
   header-only = sizes .3
 

@@ -13,14 +13,16 @@ use lib.Seq.{getD-drop, drop-drop}
 use borrow.Author.Tests.{ltb-true, eqb-true}
 use Rattle.refusal.proofs.Checks.{both-true}
 use Rattle.frame_fields.specs.Layouts.{Field, fixed, free, lv, fields, within}
+use Rattle.frame_form.specs.declared.Form.{Form}
+use Rattle.frame_form.specs.Forms.{isUplink}
 use Rattle.frame_kinds.specs.declared.Kind.{Kind}
-use Rattle.frame_kinds.specs.declared.Kind.the-variants.{Data as DataKind, ClearRequest as ClearRequestKind, ClearConfirmation as ClearConfirmationKind}
+use Rattle.frame_kinds.specs.declared.Kind.the-variants.{Data as DataKind, ClearRequest as ClearRequestKind, ClearConfirmation as ClearConfirmationKind, CallRequest as CallRequestKind, CallAccept as CallAcceptKind, ReceiveReady as ReceiveReadyKind, ReceiveNotReady as ReceiveNotReadyKind, Reject as RejectKind, Interrupt as InterruptKind, InterruptConfirmation as InterruptConfirmationKind, Reset as ResetKind, ResetConfirmation as ResetConfirmationKind}
 use Rattle.frame.specs.declared.Packet.{Packet}
 use Rattle.frame.specs.declared.MaybeData.the-variants.{Data as SomeData}
 use Rattle.frame.specs.declared.Data.{Data as DataFields}
-use Rattle.frame.specs.declared.Packet.the-variants.{Data, ClearRequest, ClearConfirmation}
+use Rattle.frame.specs.declared.Packet.the-variants.{Data, ClearRequest, ClearConfirmation, CallRequest, CallAccept, ReceiveReady, ReceiveNotReady, Reject, Interrupt, InterruptConfirmation, Reset, ResetConfirmation}
 use Rattle.little.specs.Little.{flag}
-use Rattle.frame_kinds.specs.Kinds.{layoutOf}
+use Rattle.frame_kinds.specs.Kinds.{layoutIn, layoutOf}
 use Rattle.frame.specs.Packets.{kindOf, valuesOf, packetOf, asData}
 
 -- ---- flags
@@ -46,27 +48,47 @@ kept (lv w ∷ fs) vs i = kept fs vs i
 kept (free w ∷ fs) vs i = cond (eqb w 1) (flag (eqb (getD vs i 0) 1)) (getD vs i 0) ∷ kept fs vs (suc i)
 
 -- a packet made of values has the kind, and keeps them
-pub record Facts (k : Kind) : Type 0 where
+pub record Facts (up : Bool) (k : Kind) : Type 0 where
   pub made : (vs : List ℕ) → kindOf (packetOf k vs) ≡ k
-  pub keeps : (vs : List ℕ) → valuesOf (packetOf k vs) ≡ kept (fields (layoutOf k)) vs 0
+  pub keeps : (vs : List ℕ) → valuesOf (packetOf k vs) ≡ kept (fields (layoutIn up k)) vs 0
 
 -- by computation
-pub facts : (k : Kind) → Facts k
-facts DataKind = record { made = λ vs. refl; keeps = λ vs. refl }
-facts ClearRequestKind = record { made = λ vs. refl; keeps = λ vs. refl }
-facts ClearConfirmationKind = record { made = λ vs. refl; keeps = λ vs. refl }
+pub facts : (up : Bool) (k : Kind) → Facts up k
+facts up DataKind = record { made = λ vs. refl; keeps = λ vs. refl }
+facts up ClearRequestKind = record { made = λ vs. refl; keeps = λ vs. refl }
+facts up ClearConfirmationKind = record { made = λ vs. refl; keeps = λ vs. refl }
+facts true CallRequestKind = record { made = λ vs. refl; keeps = λ vs. refl }
+facts false CallRequestKind = record { made = λ vs. refl; keeps = λ vs. refl }
+facts true CallAcceptKind = record { made = λ vs. refl; keeps = λ vs. refl }
+facts false CallAcceptKind = record { made = λ vs. refl; keeps = λ vs. refl }
+facts up ReceiveReadyKind = record { made = λ vs. refl; keeps = λ vs. refl }
+facts up ReceiveNotReadyKind = record { made = λ vs. refl; keeps = λ vs. refl }
+facts up RejectKind = record { made = λ vs. refl; keeps = λ vs. refl }
+facts up InterruptKind = record { made = λ vs. refl; keeps = λ vs. refl }
+facts up InterruptConfirmationKind = record { made = λ vs. refl; keeps = λ vs. refl }
+facts up ResetKind = record { made = λ vs. refl; keeps = λ vs. refl }
+facts up ResetConfirmationKind = record { made = λ vs. refl; keeps = λ vs. refl }
 
 -- a packet is made of its kind and its values
 pub packet-made : (p : Packet) → packetOf (kindOf p) (valuesOf p) ≡ p
 packet-made (Data d) = simp flag-read
 packet-made (ClearRequest d) = simp flag-read
 packet-made (ClearConfirmation d) = refl
+packet-made (CallRequest d) = simp flag-read
+packet-made (CallAccept d) = simp flag-read
+packet-made (ReceiveReady d) = refl
+packet-made (ReceiveNotReady d) = refl
+packet-made (Reject d) = refl
+packet-made (Interrupt d) = simp flag-read
+packet-made (InterruptConfirmation d) = refl
+packet-made (Reset d) = refl
+packet-made (ResetConfirmation d) = refl
 
 -- ---- what follows for every kind
 
 -- a kind's packet is of that kind, and has the values of which it was made
 pub kind-made : (k : Kind) (vs : List ℕ) → kindOf (packetOf k vs) ≡ k
-kind-made k vs = facts k .made vs
+kind-made k vs = facts true k .made vs
 
 -- a value within its width is kept as it is
 kept-value : (w v : ℕ) → v < 2 ^ w → cond (eqb w 1) (flag (eqb v 1)) v ≡ v
@@ -92,8 +114,8 @@ kept-all (free w ∷ fs) vs i (d ∷ ds) e h =
     ap (λ (x : ℕ). cond (eqb w 1) (flag (eqb x 1)) x) here ∙ kept-value w d (ltb-true d (2 ^ w) (p .0)) in
     λ j. value j ∷ kept-all fs vs (suc i) ds rest (p .1) j
 
-pub values-made : (k : Kind) (vs : List ℕ) → within (fields (layoutOf k)) vs ≡ true → valuesOf (packetOf k vs) ≡ vs
-values-made k vs h = facts k .keeps vs ∙ kept-all (fields (layoutOf k)) vs 0 vs refl h
+pub values-made : (form : Form) (k : Kind) (vs : List ℕ) → within (fields (layoutOf form k)) vs ≡ true → valuesOf (packetOf k vs) ≡ vs
+values-made form k vs h = facts (isUplink form) k .keeps vs ∙ kept-all (fields (layoutOf form k)) vs 0 vs refl h
 
 -- ---- the DATA packet
 
@@ -101,9 +123,27 @@ pub data-is : (p : Packet) (d : DataFields) → asData p ≡ SomeData d → p �
 data-is (Data e) d h = cc
 data-is (ClearRequest e) d h = let z : _≡_ {A = ℕ} 0 1 = cc in absurd (omega arith)
 data-is (ClearConfirmation e) d h = let z : _≡_ {A = ℕ} 0 1 = cc in absurd (omega arith)
+data-is (CallRequest e) d h = let z : _≡_ {A = ℕ} 0 1 = cc in absurd (omega arith)
+data-is (CallAccept e) d h = let z : _≡_ {A = ℕ} 0 1 = cc in absurd (omega arith)
+data-is (ReceiveReady e) d h = let z : _≡_ {A = ℕ} 0 1 = cc in absurd (omega arith)
+data-is (ReceiveNotReady e) d h = let z : _≡_ {A = ℕ} 0 1 = cc in absurd (omega arith)
+data-is (Reject e) d h = let z : _≡_ {A = ℕ} 0 1 = cc in absurd (omega arith)
+data-is (Interrupt e) d h = let z : _≡_ {A = ℕ} 0 1 = cc in absurd (omega arith)
+data-is (InterruptConfirmation e) d h = let z : _≡_ {A = ℕ} 0 1 = cc in absurd (omega arith)
+data-is (Reset e) d h = let z : _≡_ {A = ℕ} 0 1 = cc in absurd (omega arith)
+data-is (ResetConfirmation e) d h = let z : _≡_ {A = ℕ} 0 1 = cc in absurd (omega arith)
 
 -- a packet that is DATA was made of that kind
 pub data-kind : (k : Kind) (vs : List ℕ) (d : DataFields) → asData (packetOf k vs) ≡ SomeData d → k ≡ DataKind
 data-kind DataKind vs d h = refl
 data-kind ClearRequestKind vs d h = let z : _≡_ {A = ℕ} 0 1 = cc in absurd (omega arith)
 data-kind ClearConfirmationKind vs d h = let z : _≡_ {A = ℕ} 0 1 = cc in absurd (omega arith)
+data-kind CallRequestKind vs d h = let z : _≡_ {A = ℕ} 0 1 = cc in absurd (omega arith)
+data-kind CallAcceptKind vs d h = let z : _≡_ {A = ℕ} 0 1 = cc in absurd (omega arith)
+data-kind ReceiveReadyKind vs d h = let z : _≡_ {A = ℕ} 0 1 = cc in absurd (omega arith)
+data-kind ReceiveNotReadyKind vs d h = let z : _≡_ {A = ℕ} 0 1 = cc in absurd (omega arith)
+data-kind RejectKind vs d h = let z : _≡_ {A = ℕ} 0 1 = cc in absurd (omega arith)
+data-kind InterruptKind vs d h = let z : _≡_ {A = ℕ} 0 1 = cc in absurd (omega arith)
+data-kind InterruptConfirmationKind vs d h = let z : _≡_ {A = ℕ} 0 1 = cc in absurd (omega arith)
+data-kind ResetKind vs d h = let z : _≡_ {A = ℕ} 0 1 = cc in absurd (omega arith)
+data-kind ResetConfirmationKind vs d h = let z : _≡_ {A = ℕ} 0 1 = cc in absurd (omega arith)

@@ -9,6 +9,7 @@ use native.Mathlib.Omega.{arith}
 use lib.Dec.{eqb}
 use lib.ListN.{length, getD, take, drop, replicate}
 use lib.Pow.{high, low}
+use lib.Seq.{getD-take}
 use borrow.Author.Tests.{eq-eqb, ne-eqb}
 use Rattle.refusal.specs.declared.Refusal.{Refusal}
 use Rattle.refusal.specs.declared.Refusal.the-variants.{OutOfRange}
@@ -20,28 +21,32 @@ use Rattle.refusal.proofs.Numbers.{number-range, number-back as refusal-back}
 use Rattle.lists.specs.Lists.{over}
 use Rattle.little.specs.Little.{flag}
 use Rattle.frame_form.specs.declared.Form.{Form}
-use Rattle.frame_form.specs.Forms.{segOf, formValid, formAt, formCode}
+use Rattle.frame_form.specs.Forms.{segOf, formValid, isUplink, formAt, formCode}
 use Rattle.frame_form.specs.Segments.{frameLength}
 use Rattle.frame_form.proofs.Forms.{code-back, code-none}
-use Rattle.frame_fields.specs.Layouts.{Field, fixed, free, lv, fields, valuesIn, freeValues}
 use Rattle.frame_kinds.specs.declared.Kind.{Kind}
-use Rattle.frame_kinds.specs.declared.Kind.the-variants.{Data as DataKind, ClearRequest as RequestKind, ClearConfirmation as ConfirmationKind}
+use Rattle.frame_kinds.specs.declared.Kind.the-variants.{Data as DataKind, ClearRequest as ClearRequestKind, ClearConfirmation as ClearConfirmationKind, CallRequest as CallRequestKind, CallAccept as CallAcceptKind, ReceiveReady as ReceiveReadyKind, ReceiveNotReady as ReceiveNotReadyKind, Reject as RejectKind, Interrupt as InterruptKind, InterruptConfirmation as InterruptConfirmationKind, Reset as ResetKind, ResetConfirmation as ResetConfirmationKind}
 use Rattle.frame_kinds.specs.declared.Found.{Found}
-use Rattle.frame_kinds.specs.declared.Found.the-variants.{Known, Unknown}
-use Rattle.frame_kinds.specs.Kinds.{layoutOf, kindAt, freeCount, valueCount, tenBytes}
-use Rattle.frame_kinds.proofs.Stored.{number-back, header-few, values-few, ten-length}
-use Rattle.frame_reader.specs.Faults.{packetLength}
-use Rattle.frame_reader.specs.Reading.{foundIn, valuesAs, readChecks, faultAnswer, readAnswer, readBytes}
+use Rattle.frame_kinds.specs.declared.Found.the-variants.{Known, Route, Unknown}
+use Rattle.frame_kinds.specs.Kinds.{sizeOf, routeLayout, kindNumber, routeNumber, kindAt, valueCount, tenOf, tenBytes}
+use Rattle.frame_kinds.proofs.Table.{values-nine}
+use Rattle.frame_kinds.proofs.Stored.{number-back, header-few, ten-length}
+use Rattle.frame_reader.specs.Reading.{foundIn, lengthIn, headerLength, userLength, valuesAs, packetIn, readChecks, faultAnswer, readAnswer, readBytes}
 use Rattle.frame_reader.proofs.Cases.{refused-answer, refused-fault, passed-answer, passed-bytes, form-refused}
 use Rattle.frame_writer.specs.Writing.{packetSize, frameBy, writeVerdict, outputBy, answerBy, placesFit, placesVerdict, dataPlaces, writeAnswerBy, writeAnswer, writeBytesBy, writeBytes}
+use Rattle.frame_writer.specs.Routes.{routeLength, routeFrame, routeVerdict, routeAnswer, routeBytes}
 use Rattle.frame_writer.proofs.Answers.{ten-answer, ten-bytes}
 use Rattle.frame.specs.declared.Packet.{Packet}
 use Rattle.frame.specs.declared.Data.{Data as DataFields}
-use Rattle.frame.specs.declared.Packet.the-variants.{Data, ClearRequest, ClearConfirmation}
+use Rattle.frame.specs.declared.Packet.the-variants.{Data, ClearRequest, ClearConfirmation, CallRequest, CallAccept, ReceiveReady, ReceiveNotReady, Reject, Interrupt, InterruptConfirmation, Reset, ResetConfirmation}
+use Rattle.frame.specs.declared.UserData.{UserData}
 use Rattle.frame.specs.declared.Read.{Read}
-use Rattle.frame.specs.declared.Read.the-variants.{Packet as PacketRead, Refused as NotRead}
-use Rattle.frame.specs.Packets.{kindOf, valuesOf, packetOf, packetBytes, kindOr, packetAt}
-use Rattle.frame.specs.Reading.{readBy, readOf}
+use Rattle.frame.specs.declared.Read.the-variants.{Packet as PacketRead, Route as RouteRead, Refused as NotRead}
+use Rattle.frame.specs.Packets.{kindOf, valuesOf, dataOf, packetOf, packetBytes, kindOr, packetAt}
+use Rattle.frame.specs.Routes.{writeRouteOf, writeRouteOutput}
+use Rattle.frame.specs.declared.DataRead.the-variants.{Data as DataIsRead, Other as OtherRead, Refused as DataRefused}
+use Rattle.frame.specs.Reading.{routeOf, placeIn, readAt, readBy, readOf, dataReadOf}
+use Rattle.frame.proofs.Contents.{freeIn}
 use Rattle.frame.proofs.Frames.{checks-passed, never-unknown}
 use Rattle.frame.specs.Writing.{lengthOf, fits, frameOf, frameVerdict, writtenBy, writtenAt, writeOf, writeOutput}
 
@@ -55,18 +60,45 @@ places-values : (p : Packet) → take (valueCount (kindOf p)) (placesOf p) ≡ v
 places-values (Data d) = refl
 places-values (ClearRequest d) = refl
 places-values (ClearConfirmation d) = refl
+places-values (CallRequest d) = refl
+places-values (CallAccept d) = refl
+places-values (ReceiveReady d) = refl
+places-values (ReceiveNotReady d) = refl
+places-values (Reject d) = refl
+places-values (Interrupt d) = refl
+places-values (InterruptConfirmation d) = refl
+places-values (Reset d) = refl
+places-values (ResetConfirmation d) = refl
 
-places-fit : (p : Packet) (user : ℕ) → placesFit (kindOf p) (placesOf p) user ≡ fits p user
+places-fit : (form : Form) (p : Packet) (user : ℕ) → placesFit form (kindOf p) (placesOf p) user ≡ fits form p user
 unfolding placesFit
-places-fit (Data d) user = and-true (fits (Data d) user)
-places-fit (ClearRequest d) user = and-true (fits (ClearRequest d) user)
-places-fit (ClearConfirmation d) user = and-true (fits (ClearConfirmation d) user)
+places-fit form (Data d) user = and-true (fits form (Data d) user)
+places-fit form (ClearRequest d) user = and-true (fits form (ClearRequest d) user)
+places-fit form (ClearConfirmation d) user = and-true (fits form (ClearConfirmation d) user)
+places-fit form (CallRequest d) user = and-true (fits form (CallRequest d) user)
+places-fit form (CallAccept d) user = and-true (fits form (CallAccept d) user)
+places-fit form (ReceiveReady d) user = and-true (fits form (ReceiveReady d) user)
+places-fit form (ReceiveNotReady d) user = and-true (fits form (ReceiveNotReady d) user)
+places-fit form (Reject d) user = and-true (fits form (Reject d) user)
+places-fit form (Interrupt d) user = and-true (fits form (Interrupt d) user)
+places-fit form (InterruptConfirmation d) user = and-true (fits form (InterruptConfirmation d) user)
+places-fit form (Reset d) user = and-true (fits form (Reset d) user)
+places-fit form (ResetConfirmation d) user = and-true (fits form (ResetConfirmation d) user)
 
 pub ten : (p : Packet) → length (packetBytes p) ≡ 10
-unfolding tenBytes
+unfolding tenOf
 ten (Data d) = refl
 ten (ClearRequest d) = refl
 ten (ClearConfirmation d) = refl
+ten (CallRequest d) = refl
+ten (CallAccept d) = refl
+ten (ReceiveReady d) = refl
+ten (ReceiveNotReady d) = refl
+ten (Reject d) = refl
+ten (Interrupt d) = refl
+ten (InterruptConfirmation d) = refl
+ten (Reset d) = refl
+ten (ResetConfirmation d) = refl
 
 -- the answer's number gives the answer
 written-back : (v : Verdict) (len : ℕ) → writtenAt (answerBy v len) ≡ writtenBy v len
@@ -98,7 +130,7 @@ module _ (form : Form) (p : Packet) (user out : List ℕ) where
   made f = outputBy (verdict f) (frameBy f (kindOf p) (take (valueCount (kindOf p)) (placesOf p)) user) out
 
   same-verdict : verdict form ≡ frameVerdict form p (length user) (length out)
-  same-verdict = ap (λ (b : Bool). writeVerdict form b (packetSize (kindOf p) (length user)) (length out)) (places-fit p (length user))
+  same-verdict = ap (λ (b : Bool). writeVerdict form b (packetSize (kindOf p) (length user)) (length out)) (places-fit form p (length user))
 
   answer-is : writtenAt (writeAnswerBy (Known (kindOf p)) (formCode form) (placesOf p) (length user) (length out)) ≡ writeOf form p (length user) (length out)
   unfolding writeOf
@@ -132,32 +164,56 @@ module _ (form : Form) (p : Packet) (user out : List ℕ) where
   -- from the ten bytes
   pub wrote-ten : (r : ℕ) (last : List ℕ) → r ≡ writeAnswer (formCode form) (packetBytes p) (length user) (length out)
       → last ≡ writeBytes (formCode form) (packetBytes p) user out → (writtenAt r ≡ writeOf form p (length user) (length out)) × (last ≡ writeOutput form p user out)
-  unfolding tenBytes
+  unfolding tenOf
   wrote-ten r last er el =
       let known : Known (kindOf p) ≡ kindAt (getD (packetBytes p) 0 0) = sym (number-back (kindOf p)) in
       wrote-places r last
       (er ∙ sym (ten-answer (formCode form) (packetBytes p) (Known (kindOf p)) (length user) (length out) (ten p) known))
       (el ∙ sym (ten-bytes (formCode form) (packetBytes p) (Known (kindOf p)) user out (ten p) known))
 
+-- a ROUTE
+module _ (form : Form) (optional initial : Bool) (table extra out : List ℕ) where
+  abbrev t : ℕ
+  t = length table
+
+  abbrev e : ℕ
+  e = length extra
+
+  abbrev asked : Form → Verdict
+  asked f = routeVerdict f (flag optional) (flag initial) t e (length out)
+
+  route-answer : writtenAt (routeAnswer (formCode form) (flag optional) (flag initial) t e (length out)) ≡ writeRouteOf form optional initial t e (length out)
+  unfolding routeAnswer writeRouteOf
+  route-answer = written-back (asked (formAt (formCode form))) (frameLength (segOf (formAt (formCode form))) (routeLength (flag optional) t e)) ∙ go (formValid form) refl
+    where
+      go : (b : Bool) → formValid form ≡ b
+          → writtenBy (asked (formAt (formCode form))) (frameLength (segOf (formAt (formCode form))) (routeLength (flag optional) t e))
+          ≡ writtenBy (asked form) (frameLength (segOf form) (routeLength (flag optional) t e))
+      go true q = ap (λ (f : Form). writtenBy (asked f) (frameLength (segOf f) (routeLength (flag optional) t e))) (code-back form q)
+      go false q = no-form (formAt (formCode form)) _ _ _ _ (code-none form q) ∙ sym (no-form form _ _ _ (frameLength (segOf form) (routeLength (flag optional) t e)) q)
+
+  route-output : routeBytes (formCode form) (flag optional) (flag initial) table extra out ≡ writeRouteOutput form optional initial table extra out
+  unfolding routeBytes writeRouteOutput
+  route-output = go (formValid form) refl
+    where
+      go : (b : Bool) → formValid form ≡ b
+          → outputBy (asked (formAt (formCode form))) (routeFrame (formAt (formCode form)) (flag optional) (flag initial) table extra) out
+          ≡ outputBy (asked form) (routeFrame form (flag optional) (flag initial) table extra) out
+      go true q = ap (λ (f : Form). outputBy (asked f) (routeFrame f (flag optional) (flag initial) table extra) out) (code-back form q)
+      go false q = no-output (formAt (formCode form)) _ _ _ _ out (code-none form q) ∙ sym (no-output form _ _ _ _ out q)
+
+  pub wrote-route : (number o i r : ℕ) (last : List ℕ) → number ≡ formCode form → o ≡ flag optional → i ≡ flag initial → r ≡ routeAnswer number o i t e (length out)
+      → last ≡ routeBytes number o i table extra out
+      → (writtenAt r ≡ writeRouteOf form optional initial t e (length out)) × (last ≡ writeRouteOutput form optional initial table extra out)
+  wrote-route number o i r last en eo ei er el =
+      (ap writtenAt (er ∙ rw (en, eo, ei) refl) ∙ route-answer, el ∙ rw (en, eo, ei) refl ∙ route-output)
+
 -- ---- reading
 
--- a kind has as many values as free fields, nine at most
-free-length : (fs : List Field) (xs : List ℕ) → length (freeValues fs xs) ≤ freeCount fs
-free-length [] xs = omega arith
-free-length (fixed w v ∷ fs) [] = omega arith
-free-length (free w ∷ fs) [] = omega arith
-free-length (lv w ∷ fs) [] = omega arith
-free-length (fixed w v ∷ fs) (x ∷ xs) = free-length fs xs
-free-length (free w ∷ fs) (x ∷ xs) = let ih = free-length fs xs in omega (arith, ih)
-free-length (lv w ∷ fs) (x ∷ xs) = free-length fs xs
-
-values-nine : (k : Kind) (frame : List ℕ) → length (valuesAs (Known k) frame) ≤ 9
-values-nine k frame = let h = free-length (fields (layoutOf k)) (valuesIn (layoutOf k) frame) in omega (arith, h, values-few k)
-
 -- ten bytes over ten others
-all-ten : (k : Kind) (vs : List ℕ) → length vs ≤ 9 → over (tenBytes k vs) (replicate 10 0) ≡ tenBytes k vs
-all-ten k vs few =
-    ap (λ (n : ℕ). tenBytes k vs ++ drop n (replicate 10 0)) (ten-length k vs few) ∙ append-nil (tenBytes k vs)
+all-ten : (n : ℕ) (vs : List ℕ) → length vs ≤ 9 → over (tenOf n vs) (replicate 10 0) ≡ tenOf n vs
+all-ten n vs few =
+    ap (λ (m : ℕ). tenOf n vs ++ drop m (replicate 10 0)) (ten-length n vs few) ∙ append-nil (tenOf n vs)
 
 -- zeros after the values are no values
 pad-get : (vs : List ℕ) (n i : ℕ) → getD (vs ++ replicate n 0) i 0 ≡ getD vs i 0
@@ -169,20 +225,59 @@ pad-get (v ∷ vs) n (suc i) = pad-get vs n i
 
 padded : (k : Kind) (vs : List ℕ) (n : ℕ) → packetOf k (vs ++ replicate n 0) ≡ packetOf k vs
 padded DataKind vs n = simp (pad-get vs n 0, pad-get vs n 1, pad-get vs n 2, pad-get vs n 3, pad-get vs n 4)
-padded RequestKind vs n =
-    simp (pad-get vs n 0, pad-get vs n 1, pad-get vs n 2, pad-get vs n 3, pad-get vs n 4, pad-get vs n 5, pad-get vs n 6, pad-get vs n 7, pad-get vs n 8)
-padded ConfirmationKind vs n = simp (pad-get vs n 0, pad-get vs n 1, pad-get vs n 2, pad-get vs n 3, pad-get vs n 4)
+padded ClearRequestKind vs n = simp (pad-get vs n 0, pad-get vs n 1, pad-get vs n 2, pad-get vs n 3, pad-get vs n 4, pad-get vs n 5, pad-get vs n 6, pad-get vs n 7, pad-get vs n 8)
+padded ClearConfirmationKind vs n = simp (pad-get vs n 0, pad-get vs n 1, pad-get vs n 2, pad-get vs n 3, pad-get vs n 4)
+padded CallRequestKind vs n = simp (pad-get vs n 0, pad-get vs n 1, pad-get vs n 2, pad-get vs n 3, pad-get vs n 4, pad-get vs n 5, pad-get vs n 6, pad-get vs n 7, pad-get vs n 8)
+padded CallAcceptKind vs n = simp (pad-get vs n 0, pad-get vs n 1, pad-get vs n 2, pad-get vs n 3, pad-get vs n 4, pad-get vs n 5, pad-get vs n 6)
+padded ReceiveReadyKind vs n = simp (pad-get vs n 0, pad-get vs n 1, pad-get vs n 2)
+padded ReceiveNotReadyKind vs n = simp (pad-get vs n 0, pad-get vs n 1, pad-get vs n 2)
+padded RejectKind vs n = simp (pad-get vs n 0, pad-get vs n 1, pad-get vs n 2)
+padded InterruptKind vs n = simp (pad-get vs n 0, pad-get vs n 1, pad-get vs n 2, pad-get vs n 3)
+padded InterruptConfirmationKind vs n = simp (pad-get vs n 0, pad-get vs n 1)
+padded ResetKind vs n = simp (pad-get vs n 0, pad-get vs n 1, pad-get vs n 2, pad-get vs n 3)
+padded ResetConfirmationKind vs n = simp (pad-get vs n 0, pad-get vs n 1)
+
+-- no kind has the number of ROUTE
+not-route : (k : Kind) → eqb (kindNumber k) routeNumber ≡ false
+not-route DataKind = refl
+not-route ClearRequestKind = refl
+not-route ClearConfirmationKind = refl
+not-route CallRequestKind = refl
+not-route CallAcceptKind = refl
+not-route ReceiveReadyKind = refl
+not-route ReceiveNotReadyKind = refl
+not-route RejectKind = refl
+not-route InterruptKind = refl
+not-route InterruptConfirmationKind = refl
+not-route ResetKind = refl
+not-route ResetConfirmationKind = refl
 
 -- the ten bytes of a kind and its values give the packet
 packet-back : (k : Kind) (vs : List ℕ) → packetAt (tenBytes k vs) ≡ packetOf k vs
-unfolding packetAt tenBytes
+unfolding packetAt tenOf
 packet-back k vs =
     ap (λ (f : Found). packetOf (kindOr f) (vs ++ replicate (9 - length vs) 0)) (number-back k) ∙ padded k vs (9 - length vs)
 
+known-at : (k : Kind) (vs : List ℕ) (user : UserData) → readAt (tenBytes k vs) user ≡ PacketRead (packetOf k vs) user
+unfolding readAt tenOf
+known-at k vs user = rw (not-route k) (ap (λ (p : Packet). PacketRead p user) (packet-back k vs))
+
+route-at : (frame : List ℕ) (user : UserData) → readAt (tenOf routeNumber (freeIn routeLayout frame)) user ≡ RouteRead (routeOf (freeIn routeLayout frame) (user .len))
+unfolding readAt tenOf
+route-at frame user = refl
+
 -- the answer, from what `frame_reader` answered and wrote
-abbrev pub readAt : ℕ → List ℕ → ℕ → Read
-readAt answer bytes at =
-    cond (eqb (answer % 256) 0) (PacketRead (packetAt bytes) (record { at = answer / 256 % 256; len = answer / 65536 })) (NotRead (refusalAt (answer % 256)) at)
+abbrev pub answerAt : ℕ → List ℕ → ℕ → Read
+answerAt answer bytes at =
+    cond (eqb (answer % 256) 0) (readAt bytes (placeIn answer)) (NotRead (refusalAt (answer % 256)) at)
+
+-- a place, from the number
+placed : (size m : ℕ) → size ≤ 7 → let a = 256 * (size + 256 * m) in (a % 256 ≡ 0) × (a / 256 % 256 ≡ size) × (a / 65536 ≡ m)
+placed size m few =
+    let a = 256 * (size + 256 * m) in
+    let above : a / 256 ≡ m * 2 ^ 8 + size = omega arith in
+    let sum : a ≡ m * 2 ^ 16 + 256 * size = omega arith in
+    (omega arith, ap (λ (x : ℕ). x % 256) above ∙ low m 8 (omega (arith, few)), ap (λ (x : ℕ). x / 65536) sum ∙ high m 16 (omega (arith, few)))
 
 module _ (form : Form) (frame : List ℕ) where
   abbrev code : ℕ
@@ -197,44 +292,46 @@ module _ (form : Form) (frame : List ℕ) where
       go false e = form-refused (formAt code) frame (code-none form e) ∙ sym (form-refused form frame e)
 
   refused-back : (why : Refusal) (at : ℕ) (bytes : List ℕ) → readChecks form frame ≡ refusedAt why at
-      → readAt (readAnswer code frame 10) bytes (faultAnswer code frame) ≡ NotRead why at
+      → answerAt (readAnswer code frame 10) bytes (faultAnswer code frame) ≡ NotRead why at
   refused-back why at bytes e =
       let c = same-checks ∙ e in
       let r = number-range why in
       let small : numberOf why % 256 ≡ numberOf why = omega (arith, r .1) in
       let some : numberOf why % 256 ≡ 0 → ⊥ = λ z. omega (arith, small, z, r .0) in
-      ap₂ (λ (a b : ℕ). readAt a bytes b) (refused-answer code frame why at c 10) (refused-fault code frame why at c)
+      ap₂ (λ (a b : ℕ). answerAt a bytes b) (refused-answer code frame why at c 10) (refused-fault code frame why at c)
       ∙ rw (ne-eqb (numberOf why % 256) 0 some, small, refusal-back why)
 
-  read-known : (k : Kind) → foundIn frame ≡ Known k → readChecks form frame ≡ passed
-      → readAt (readAnswer code frame 10) (readBytes code frame (replicate 10 0)) (faultAnswer code frame) ≡ readBy passed (Known k) (segOf form) frame
-  read-known k found e =
+  -- what passes gives ten bytes and a place
+  passed-back : (found : Found) (n : ℕ) (vs : List ℕ) → foundIn frame ≡ found → readChecks form frame ≡ passed → headerLength found ≤ 7 → length vs ≤ 9
+      → packetIn found (formAt code) frame ≡ tenOf n vs
+      → answerAt (readAnswer code frame 10) (readBytes code frame (replicate 10 0)) (faultAnswer code frame)
+      ≡ readAt (tenOf n vs) (record { at = headerLength found; len = userLength found form frame })
+  passed-back found n vs f e few nine ten =
       let c = same-checks ∙ e in
-      let l = layoutOf k in
       let valid = checks-passed form frame e .valid in
-      let n = packetLength (segOf form) l frame in
-      let packet : packetLength (segOf (formAt code)) l frame ≡ n = ap (λ (f : Form). packetLength (segOf f) l frame) (code-back form valid) in
-      let m = n - l .size in
-      let a = 256 * (l .size + 256 * m) in
-      let zero-low : a % 256 ≡ 0 = omega arith in
-      let above : a / 256 ≡ m * 2 ^ 8 + l .size = omega arith in
-      let at : a / 256 % 256 ≡ l .size = ap (λ (x : ℕ). x % 256) above ∙ low m 8 (omega (arith, header-few k .1)) in
-      let sum : a ≡ m * 2 ^ 16 + 256 * l .size = omega arith in
-      let len : a / 65536 ≡ m = ap (λ (x : ℕ). x / 65536) sum ∙ high m 16 (omega (arith, header-few k .1)) in
-      let vs = valuesAs (Known k) frame in
-      let bytes : readBytes code frame (replicate 10 0) ≡ tenBytes k vs =
-      passed-bytes code frame k found c (replicate 10 0) (omega arith) ∙ all-ten k vs (values-nine k frame) in
-      ap₂ (λ (x : ℕ) (b : List ℕ). readAt x b (faultAnswer code frame)) (passed-answer code frame k found c 10 n (omega arith) packet) bytes
-      ∙ rw (eq-eqb (a % 256) 0 zero-low, at, len, packet-back k vs)
+      let m = userLength found form frame in
+      let packet : lengthIn found (formAt code) frame ≡ lengthIn found form frame = ap (λ (g : Form). lengthIn found g frame) (code-back form valid) in
+      let p = placed (headerLength found) m few in
+      let bytes : readBytes code frame (replicate 10 0) ≡ tenOf n vs =
+      passed-bytes code frame c found (replicate 10 0) f (omega arith) ∙ ap (λ (l : List ℕ). over l (replicate 10 0)) ten ∙ all-ten n vs nine in
+      ap₂ (λ (x : ℕ) (b : List ℕ). answerAt x b (faultAnswer code frame)) (passed-answer code frame c found 10 (lengthIn found form frame) f (omega arith) packet) bytes
+      ∙ rw (eq-eqb (256 * (headerLength found + 256 * m) % 256) 0 (p .0), p .1, p .2)
 
-  pub read-back : readAt (readAnswer code frame 10) (readBytes code frame (replicate 10 0)) (faultAnswer code frame) ≡ readOf form frame
+  same-values : (found : Found) → formValid form ≡ true → valuesAs found (formAt code) frame ≡ valuesAs found form frame
+  same-values found valid = ap (λ (g : Form). valuesAs found g frame) (code-back form valid)
+
+  pub read-back : answerAt (readAnswer code frame 10) (readBytes code frame (replicate 10 0)) (faultAnswer code frame) ≡ readOf form frame
   unfolding readOf
   read-back = go (readChecks form frame) (foundIn frame) refl refl
     where
       go : (c : Checked) (f : Found) → readChecks form frame ≡ c → foundIn frame ≡ f
-          → readAt (readAnswer code frame 10) (readBytes code frame (replicate 10 0)) (faultAnswer code frame) ≡ readBy c f (segOf form) frame
+          → answerAt (readAnswer code frame 10) (readBytes code frame (replicate 10 0)) (faultAnswer code frame) ≡ readBy c f form frame
       go (refusedAt why at) f ec ef = refused-back why at _ ec
-      go passed (Known k) ec ef = read-known k ef ec
+      go passed (Known k) ec ef =
+          let vs = valuesAs (Known k) form frame in
+          passed-back (Known k) (kindNumber k) vs ef ec (header-few k .1) (values-nine (isUplink form) k _) (ap (tenBytes k) (same-values (Known k) (checks-passed form frame ec .valid)))
+          ∙ known-at k vs (record { at = sizeOf k; len = userLength (Known k) form frame })
+      go passed Route ec ef = passed-back Route routeNumber (valuesAs Route form frame) ef ec (omega arith) (omega arith) refl ∙ route-at frame _
       go passed Unknown ec ef = absurd (never-unknown form frame ec ef)
 
 -- ---- the same, in the shape of the code's facts
@@ -256,23 +353,74 @@ wrote-bytes form p user out number bytes r last en eb er el =
     (er ∙ ap₂ (λ (n : ℕ) (b : List ℕ). writeAnswer n b (length user) (length out)) en eb)
     (el ∙ ap₂ (λ (n : ℕ) (b : List ℕ). writeBytes n b user out) en eb)
 
+-- ten bytes whose first is 0 are DATA
+first-data : (bytes : List ℕ) (place : UserData) → getD bytes 0 0 ≡ 0 → dataReadOf (readAt bytes place) ≡ DataIsRead (dataOf (drop 1 bytes)) place
+unfolding readAt packetAt kindAt
+first-data bytes place z = rw z
+
+-- the fields of DATA are among the first nine bytes
+data-front : (xs : List ℕ) → dataOf (take 9 xs) ≡ dataOf xs
+data-front xs = simp (getD-take 9 xs 0 0 (omega arith), getD-take 9 xs 1 0 (omega arith), getD-take 9 xs 2 0 (omega arith), getD-take 9 xs 3 0 (omega arith), getD-take 9 xs 4 0 (omega arith))
+
+-- and no other kind has that number
+other-kind : (k : Kind) (vs : List ℕ) (place : UserData) → (kindNumber k ≡ 0 → ⊥) → OtherRead ≡ dataReadOf (PacketRead (packetOf k vs) place)
+other-kind DataKind vs place h = absurd (h refl)
+other-kind ClearRequestKind vs place h = refl
+other-kind ClearConfirmationKind vs place h = refl
+other-kind CallRequestKind vs place h = refl
+other-kind CallAcceptKind vs place h = refl
+other-kind ReceiveReadyKind vs place h = refl
+other-kind ReceiveNotReadyKind vs place h = refl
+other-kind RejectKind vs place h = refl
+other-kind InterruptKind vs place h = refl
+other-kind InterruptConfirmationKind vs place h = refl
+other-kind ResetKind vs place h = refl
+other-kind ResetConfirmationKind vs place h = refl
+
 module _ (form : Form) (frame : List ℕ) (number answer : ℕ) (bytes : List ℕ) (en : number ≡ formCode form) (ea : answer ≡ readAnswer number frame 10)
     (eb : bytes ≡ readBytes number frame (replicate 10 0)) where
-  as-read : (at : ℕ) → at ≡ faultAnswer number frame → readAt answer bytes at ≡ readOf form frame
+  as-read : (at : ℕ) → at ≡ faultAnswer number frame → answerAt answer bytes at ≡ readOf form frame
   as-read at ef =
-      ap (λ (x : ℕ). readAt x bytes at) (ea ∙ ap (λ (n : ℕ). readAnswer n frame 10) en)
-      ∙ ap₂ (λ (b : List ℕ) (x : ℕ). readAt (readAnswer (formCode form) frame 10) b x) (eb ∙ ap (λ (n : ℕ). readBytes n frame (replicate 10 0)) en) (ef ∙ ap (λ (n : ℕ). faultAnswer n frame) en)
+      ap (λ (x : ℕ). answerAt x bytes at) (ea ∙ ap (λ (n : ℕ). readAnswer n frame 10) en)
+      ∙ ap₂ (λ (b : List ℕ) (x : ℕ). answerAt (readAnswer (formCode form) frame 10) b x) (eb ∙ ap (λ (n : ℕ). readBytes n frame (replicate 10 0)) en) (ef ∙ ap (λ (n : ℕ). faultAnswer n frame) en)
       ∙ read-back form frame
 
-  pub read-done : (p : Packet) → answer % 256 ≡ 0 → p ≡ packetAt bytes
-      → PacketRead p (record { at = answer / 256 % 256; len = answer / 65536 }) ≡ readOf form frame
-  read-done p e ep =
-      ap (λ (x : Packet). PacketRead x (record { at = answer / 256 % 256; len = answer / 65536 })) ep
-      ∙ sym (ap (λ (b : Bool). cond b (PacketRead (packetAt bytes) (record { at = answer / 256 % 256; len = answer / 65536 })) (NotRead (refusalAt (answer % 256)) (faultAnswer number frame))) (eq-eqb (answer % 256) 0 e))
+  pub read-done : (r : Read) → answer % 256 ≡ 0 → r ≡ readAt bytes (placeIn answer) → r ≡ readOf form frame
+  read-done r e er =
+      er
+      ∙ sym (ap (λ (b : Bool). cond b (readAt bytes (placeIn answer)) (NotRead (refusalAt (answer % 256)) (faultAnswer number frame))) (eq-eqb (answer % 256) 0 e))
       ∙ as-read (faultAnswer number frame) refl
 
   pub read-refused : (why : Refusal) (at : ℕ) → (answer % 256 ≡ 0 → ⊥) → why ≡ refusalAt (answer % 256) → at ≡ faultAnswer number frame → NotRead why at ≡ readOf form frame
   read-refused why at e ew ef =
       ap (λ (x : Refusal). NotRead x at) ew
-      ∙ sym (ap (λ (b : Bool). cond b (PacketRead (packetAt bytes) (record { at = answer / 256 % 256; len = answer / 65536 })) (NotRead (refusalAt (answer % 256)) at)) (ne-eqb (answer % 256) 0 e))
+      ∙ sym (ap (λ (b : Bool). cond b (readAt bytes (placeIn answer)) (NotRead (refusalAt (answer % 256)) at)) (ne-eqb (answer % 256) 0 e))
       ∙ as-read at ef
+
+  -- the same, of DATA alone
+  pub data-done : (d : DataFields) → answer % 256 ≡ 0 → getD bytes 0 0 ≡ 0 → d ≡ dataOf (take 9 (drop 1 bytes))
+      → DataIsRead d (placeIn answer) ≡ dataReadOf (readOf form frame)
+  data-done d e z ed =
+      let place : UserData = placeIn answer in
+      ap (λ (x : DataFields). DataIsRead x place) (ed ∙ data-front (drop 1 bytes)) ∙ sym (first-data bytes place z) ∙ ap dataReadOf (read-done (readAt bytes place) e refl)
+
+  pub data-refused : (why : Refusal) (at : ℕ) → (answer % 256 ≡ 0 → ⊥) → why ≡ refusalAt (answer % 256) → at ≡ faultAnswer number frame → DataRefused why at ≡ dataReadOf (readOf form frame)
+  data-refused why at e ew ef = ap dataReadOf (read-refused why at e ew ef)
+
+  first-byte : (k : Kind) → readChecks form frame ≡ passed → foundIn frame ≡ Known k → getD bytes 0 0 ≡ kindNumber k
+  unfolding tenOf
+  first-byte k ec ef =
+      ap (λ (l : List ℕ). getD l 0 0)
+      (eb ∙ ap (λ (n : ℕ). readBytes n frame (replicate 10 0)) en ∙ passed-bytes (formCode form) frame (same-checks form frame ∙ ec) (Known k) (replicate 10 0) ef (omega arith))
+
+  pub data-other : answer % 256 ≡ 0 → (getD bytes 0 0 ≡ 0 → ⊥) → OtherRead ≡ dataReadOf (readOf form frame)
+  unfolding readOf
+  data-other e some = go (readChecks form frame) (foundIn frame) refl refl
+    where
+      go : (c : Checked) (f : Found) → readChecks form frame ≡ c → foundIn frame ≡ f → OtherRead ≡ dataReadOf (readBy c f form frame)
+      go (refusedAt why at) f ec ef =
+          let refused : answer ≡ numberOf why = ea ∙ ap (λ (n : ℕ). readAnswer n frame 10) en ∙ refused-answer (formCode form) frame why at (same-checks form frame ∙ ec) 10 in
+          absurd (omega (arith, e, refused, number-range why))
+      go passed (Known k) ec ef = other-kind k _ _ (λ z. some (first-byte k ec ef ∙ z))
+      go passed Route ec ef = refl
+      go passed Unknown ec ef = absurd (never-unknown form frame ec ef)

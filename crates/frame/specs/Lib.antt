@@ -2,3 +2,4 @@
 pub mod Packets
 pub mod Writing
 pub mod Reading
+pub mod Routes

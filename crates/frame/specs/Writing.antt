@@ -45,8 +45,8 @@ abbrev pub lengthOf : Packet → ℕ → ℕ
 lengthOf p user = packetSize (kindOf p) user
 
 -- whether every value fits its field, and there is no user data without LV; else refusal 1
-abbrev pub fits : Packet → ℕ → Bool
-fits p user = valuesFit (kindOf p) (valuesOf p) user
+abbrev pub fits : Form → Packet → ℕ → Bool
+fits form p user = valuesFit form (kindOf p) (valuesOf p) user
 
 -- the bytes of the frame, in any form
 abbrev pub frameOf : Form → Packet → List ℕ → List ℕ
@@ -54,7 +54,7 @@ frameOf form p user = frameBy form (kindOf p) (valuesOf p) user
 
 -- the checks, in the order 1, 23, 13, 5
 abbrev pub frameVerdict : Form → Packet → ℕ → ℕ → Verdict
-frameVerdict form p user room = writeVerdict form (fits p user) (lengthOf p user) room
+frameVerdict form p user room = writeVerdict form (fits form p user) (lengthOf p user) room
 
 -- the answer: the frame's length, or the refusal
 unfoldable pub writeOf : Form → Packet → ℕ → ℕ → Written

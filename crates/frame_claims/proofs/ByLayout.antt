@@ -35,7 +35,7 @@ read-is-frame form frame p place bytes e =
     let len = part-length form frame p place e in
     record {
       same = sym (f .again bytes);
-      holds = record { good = f .good; fit = ap (fits p) len ∙ f .fit; most = omega (arith, len, f .most) };
+      holds = record { good = f .good; fit = ap (fits form p) len ∙ f .fit; most = omega (arith, len, f .most) };
       place-is = λ i. record { at = f .header-first i; len = sym len i };
     }
 
@@ -43,7 +43,7 @@ read-is-frame form frame p place bytes e =
 frame-bytes : (form : Form) (p : Packet) (user : List ℕ) → AreBytes user → AreBytes (frameOf form p user)
 unfolding frameBy framed
 frame-bytes form p user are =
-    let l = layoutOf (kindOf p) in
+    let l = layoutOf form (kindOf p) in
     let u = lastUsed (segOf form) (lengthOf p (length user)) in
     let pad = padding (segOf form) (length (header l u (valuesOf p)) + length user) in
     both-are (header l u (valuesOf p)) (user ++ replicate pad 0) (bytes-are (l .size) (headerNumber l u (valuesOf p)))

@@ -24,15 +24,13 @@ use Rattle.frame_form.specs.Segments.{frameLength}
 use Rattle.frame_form.proofs.Forms.{long-at, most-range}
 use Rattle.frame_kinds.specs.declared.Kind.{Kind}
 use Rattle.frame_kinds.specs.declared.Found.{Found}
-use Rattle.frame_kinds.specs.declared.Found.the-variants.{Known, Unknown}
-use Rattle.frame_kinds.specs.Kinds.{layoutOf, kindAt, valueCount, tenBytes}
-use Rattle.frame_reader.specs.Faults.{packetLength}
-use Rattle.frame_reader.specs.Reading.{foundIn, headerLength, userLength, valuesAs, readChecks, readAnswerBy, readAnswer, readBytes}
+use Rattle.frame_kinds.specs.declared.Found.the-variants.{Known, Route, Unknown}
+use Rattle.frame_kinds.specs.Kinds.{sizeOf, layoutOf, kindAt, valueCount, tenOf, tenBytes}
+use Rattle.frame_reader.specs.Reading.{foundIn, lengthIn, headerLength, userLength, valuesAs, readChecks, readAnswerBy, readAnswer, readBytes}
 use Rattle.frame_reader.proofs.Cases.{passed-answer, passed-bytes}
 use Rattle.frame_writer.specs.Writing.{packetSize, frameBy, writeVerdict, outputBy, answerBy, placesFit, writeAnswerBy, writeAnswer, writeBytes}
 use Rattle.frame_writer.proofs.Answers.{ten-answer, ten-bytes}
 use Rattle.frame.specs.declared.Packet.{Packet}
-use Rattle.frame.specs.declared.Packet.the-variants.{Data, ClearRequest, ClearConfirmation}
 use Rattle.frame.specs.declared.UserData.{UserData}
 use Rattle.frame.specs.declared.Written.{Written}
 use Rattle.frame.specs.declared.Written.the-variants.{Done as WrittenDone, Refused as NotWritten}
@@ -44,10 +42,10 @@ use Rattle.frame.proofs.KindLaws.{kind-made, values-made}
 use Rattle.frame.proofs.Contents.{freeIn, free-in-range}
 use Rattle.frame.proofs.Frames.{reads-frame, never-unknown}
 use Rattle.frame_claims.specs.ByLayout.{CanHold}
-use Rattle.frame_claims.specs.Bytes.{frameWritten, userNamed, BytesRead, BytesWritten, BytesAreFrame, FrameIsBytes, ReadBackOfBytes}
+use Rattle.frame_claims.specs.Bytes.{frameWritten, userNamed, BytesRead, BytesWritten, BytesAreFrame, FrameIsBytes, NoRoute, ReadBackOfBytes}
 use Rattle.frame_claims.proofs.ByLayout.{part-length, by-layout}
 use Rattle.frame_claims.proofs.ReadBack.{read-back}
-use Rattle.frame_claims.proofs.Stored.{round-trips}
+use Rattle.frame_claims.proofs.Stored.{values-taken, round-trips}
 
 -- ---- a call of `write`
 
@@ -61,16 +59,14 @@ one-number (Refused why) len = refl
 
 -- the values are the first of the nine bytes after the first
 values-first : (p : Packet) → take (valueCount (kindOf p)) (drop 1 (packetBytes p)) ≡ valuesOf p
-unfolding tenBytes
-values-first (Data d) = refl
-values-first (ClearRequest d) = refl
-values-first (ClearConfirmation d) = refl
+unfolding tenOf
+values-first p = values-taken p
 
 -- the calls on ten bytes of a packet do what those on the packet do
 module _ (form : ℕ) (p : Packet) where
-  same-verdict : (user room : ℕ) → writeVerdict (formAt form) (placesFit (kindOf p) (drop 1 (packetBytes p)) user) (packetSize (kindOf p) user) room
+  same-verdict : (user room : ℕ) → writeVerdict (formAt form) (placesFit (formAt form) (kindOf p) (drop 1 (packetBytes p)) user) (packetSize (kindOf p) user) room
       ≡ frameVerdict (formAt form) p user room
-  same-verdict user room = ap (λ (b : Bool). writeVerdict (formAt form) b (packetSize (kindOf p) user) room) (round-trips .packet-back p .places user)
+  same-verdict user room = ap (λ (b : Bool). writeVerdict (formAt form) b (packetSize (kindOf p) user) room) (round-trips .packet-back p .places (formAt form) user)
 
   pub answer-of : (user room : ℕ) → writeAnswer form (packetBytes p) user room ≡ writtenAnswer (writeOf (formAt form) p user room)
   unfolding writeOf
@@ -113,10 +109,10 @@ done-fits form false n room len h = go (formValid form) h
 
 module _ (form : ℕ) (bytes : List ℕ) (user room : ℕ) where
   -- ten bytes of a kind that fit are those of one packet
-  by-fit : (k : Kind) → length bytes ≡ 10 → kindAt (getD bytes 0 0) ≡ Known k → placesFit k (drop 1 bytes) user ≡ true
+  by-fit : (k : Kind) → length bytes ≡ 10 → kindAt (getD bytes 0 0) ≡ Known k → placesFit (formAt form) k (drop 1 bytes) user ≡ true
       → writeAnswer form bytes user room % 256 ≡ 0 → Wrote form bytes user room
   by-fit k ten kind fit h =
-      let same = round-trips .bytes-back bytes k user ten kind fit in
+      let same = round-trips .bytes-back (formAt form) bytes k user ten kind fit in
       let w = written-done (writeOf (formAt form) (packetAt bytes) user room)
       (ap (λ (x : ℕ). x % 256) (sym (answer-of form (packetAt bytes) user room) ∙ ap (λ (x : List ℕ). writeAnswer form x user room) same) ∙ h) in
       record { p = packetAt bytes; n = w .0; taken = same; done = w .1 }
@@ -125,7 +121,8 @@ module _ (form : ℕ) (bytes : List ℕ) (user room : ℕ) where
       → writeAnswerBy found form (drop 1 bytes) user room % 256 ≡ 0 → Wrote form bytes user room
   by-kind (Known k) kind ten h g =
       by-fit k ten kind
-      (done-fits (formAt form) (placesFit k (drop 1 bytes) user) (packetSize k user) room (frameLength (segOf (formAt form)) (packetSize k user)) g) h
+      (done-fits (formAt form) (placesFit (formAt form) k (drop 1 bytes) user) (packetSize k user) room (frameLength (segOf (formAt form)) (packetSize k user)) g) h
+  by-kind Route kind ten h g = absurd (omega arith)
   by-kind Unknown kind ten h g = absurd (omega arith)
 
   by-ten : (b : Bool) → eqb (length bytes) 10 ≡ b → writeAnswer form bytes user room % 256 ≡ 0
@@ -150,22 +147,23 @@ record WasRead (form : ℕ) (frame : List ℕ) (places : ℕ) : Type 0 where
   reads : readOf (formAt form) frame ≡ PacketRead p place
   room : 10 ≤ places
 
-module _ (form : ℕ) (frame : List ℕ) (places : ℕ) where
+module _ (form : ℕ) (frame : List ℕ) (places : ℕ) (none : NoRoute frame) where
   by-room : (k : Kind) (b : Bool) → leb 10 places ≡ b → readChecks (formAt form) frame ≡ passed → foundIn frame ≡ Known k → (n : ℕ)
       → cond b (256 * n) (numberOf OutputTooShort) % 256 ≡ 0 → WasRead form frame places
   unfolding readOf
   by-room k true b e ef n h = record {
-    p = packetOf k (valuesAs (Known k) frame);
-    place = record { at = layoutOf k .size; len = userLength (Known k) (segOf (formAt form)) frame };
-    reads = ap₂ (λ (c : Checked) (f : Found). readBy c f (segOf (formAt form)) frame) e ef;
+    p = packetOf k (valuesAs (Known k) (formAt form) frame);
+    place = record { at = sizeOf k; len = userLength (Known k) (formAt form) frame };
+    reads = ap₂ (λ (c : Checked) (f : Found). readBy c f (formAt form) frame) e ef;
     room = leb-true 10 places b;
   }
   by-room k false b e ef n h = absurd (omega arith)
 
   by-checks : (c : Checked) (f : Found) → readChecks (formAt form) frame ≡ c → foundIn frame ≡ f
-      → readAnswerBy c (headerLength (foundIn frame)) (userLength (foundIn frame) (segOf (formAt form)) frame) places % 256 ≡ 0 → WasRead form frame places
+      → readAnswerBy c (headerLength (foundIn frame)) (userLength (foundIn frame) (formAt form) frame) places % 256 ≡ 0 → WasRead form frame places
   by-checks passed (Known k) e ef h =
-      by-room k (leb 10 places) refl e ef (headerLength (foundIn frame) + 256 * userLength (foundIn frame) (segOf (formAt form)) frame) h
+      by-room k (leb 10 places) refl e ef (headerLength (foundIn frame) + 256 * userLength (foundIn frame) (formAt form) frame) h
+  by-checks passed Route e ef h = absurd (none ef)
   by-checks passed Unknown e ef h = absurd (never-unknown (formAt form) frame e ef)
   by-checks (refusedAt why at) f e ef h = absurd (omega (arith, number-range why))
 
@@ -180,23 +178,24 @@ module _ (form : ℕ) (frame places : List ℕ) (room : 10 ≤ length places) wh
   Gives p place = (256 * (place .at + 256 * place .len) ≡ readAnswer form frame (length places)) × (over (packetBytes p) places ≡ readBytes form frame places)
 
   of-kind : (k : Kind) → readChecks (formAt form) frame ≡ passed → foundIn frame ≡ Known k
-      → Gives (packetOf k (freeIn (layoutOf k) frame)) (record { at = layoutOf k .size; len = userLength (Known k) (segOf (formAt form)) frame })
+      → Gives (packetOf k (freeIn (layoutOf (formAt form) k) frame)) (record { at = sizeOf k; len = userLength (Known k) (formAt form) frame })
   of-kind k e ef =
-      let vs = freeIn (layoutOf k) frame in
-      let ten : packetBytes (packetOf k vs) ≡ tenBytes k vs = ap₂ tenBytes (kind-made k vs) (values-made k vs (free-in-range (layoutOf k) frame)) in (
-        sym (passed-answer form frame k ef e (length places) (packetLength (segOf (formAt form)) (layoutOf k) frame) room refl),
-        ap (λ (x : List ℕ). over x places) ten ∙ sym (passed-bytes form frame k ef e places room),
+      let vs = freeIn (layoutOf (formAt form) k) frame in
+      let ten : packetBytes (packetOf k vs) ≡ tenBytes k vs = ap₂ tenBytes (kind-made k vs) (values-made (formAt form) k vs (free-in-range (layoutOf (formAt form) k) frame)) in (
+        sym (passed-answer form frame e (Known k) (length places) (lengthIn (Known k) (formAt form) frame) ef room refl),
+        ap (λ (x : List ℕ). over x places) ten ∙ sym (passed-bytes form frame e (Known k) places ef room),
       )
 
   by-found : (p : Packet) (place : UserData) (c : Checked) (f : Found) → readChecks (formAt form) frame ≡ c → foundIn frame ≡ f
-      → readBy c f (segOf (formAt form)) frame ≡ PacketRead p place → Gives p place
+      → readBy c f (formAt form) frame ≡ PacketRead p place → Gives p place
   by-found p place (refusedAt why at) f ec ef e = let z : _≡_ {A = ℕ} 0 1 = cc in absurd (omega arith)
+  by-found p place passed Route ec ef e = let z : _≡_ {A = ℕ} 0 1 = cc in absurd (omega arith)
   by-found p place passed Unknown ec ef e = let z : _≡_ {A = ℕ} 0 1 = cc in absurd (omega arith)
   by-found p place passed (Known k) ec ef e =
-      let there : UserData = record { at = layoutOf k .size; len = userLength (Known k) (segOf (formAt form)) frame } in
-      let packet : packetOf k (freeIn (layoutOf k) frame) ≡ p = cc in
+      let there : UserData = record { at = sizeOf k; len = userLength (Known k) (formAt form) frame } in
+      let packet : packetOf k (freeIn (layoutOf (formAt form) k) frame) ≡ p = cc in
       let at : there ≡ place = cc in
-      subst (λ (x : Packet). Gives x place) packet (subst (Gives (packetOf k (freeIn (layoutOf k) frame))) at (of-kind k ec ef))
+      subst (λ (x : Packet). Gives x place) packet (subst (Gives (packetOf k (freeIn (layoutOf (formAt form) k) frame))) at (of-kind k ec ef))
 
   done-read : (p : Packet) (place : UserData) → readOf (formAt form) frame ≡ PacketRead p place → Gives p place
   unfolding readOf
@@ -253,10 +252,10 @@ module _ (form : ℕ) (frame places : List ℕ) (r : WasRead form frame (length 
       named (readAnswer form frame (length places)) frame (r .place) (done-read form frame places (r .room) (r .p) (r .place) (r .reads) .0)
       (omega (arith, read-few (formAt form) frame (r .p) (r .place) (r .reads)))
 
-read-is-written : (form : ℕ) (frame places out : List ℕ) → 1 ≤ form → AreBytes frame → readAnswer form frame (length places) % 256 ≡ 0
+read-is-written : (form : ℕ) (frame places out : List ℕ) → 1 ≤ form → AreBytes frame → NoRoute frame → readAnswer form frame (length places) % 256 ≡ 0
     → length frame ≤ length out → BytesWritten form frame places out
-read-is-written form frame places out long bytes h room =
-    let r = was-read form frame (length places) h in
+read-is-written form frame places out long bytes none h room =
+    let r = was-read form frame (length places) none h in
     let back = read-back .read-is-written (formAt form) frame (r .p) (r .place) out (long-at form long) bytes (r .reads) room in
     let ten = ten-read form frame places r in
     let user = user-read form frame places r in
@@ -272,9 +271,9 @@ read-is-written form frame places out long bytes h room =
 
 -- ---- by the layout
 
-read-is-frame : (form : ℕ) (frame places : List ℕ) → AreBytes frame → readAnswer form frame (length places) % 256 ≡ 0 → BytesAreFrame form frame places
-read-is-frame form frame places bytes h =
-    let r = was-read form frame (length places) h in
+read-is-frame : (form : ℕ) (frame places : List ℕ) → AreBytes frame → NoRoute frame → readAnswer form frame (length places) % 256 ≡ 0 → BytesAreFrame form frame places
+read-is-frame form frame places bytes none h =
+    let r = was-read form frame (length places) none h in
     record {
       packet = r .p;
       ten = ten-read form frame places r;

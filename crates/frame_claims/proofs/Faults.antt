@@ -15,9 +15,9 @@ use Rattle.refusal.specs.Numbers.{numberOf, refusalAt}
 use Rattle.refusal.specs.Positions.{Checked, passed, refusedAt, positionOf}
 use Rattle.refusal.proofs.Numbers.{number-range, number-back}
 use Rattle.frame_form.specs.declared.Form.{Form}
-use Rattle.frame_form.specs.Forms.{segOf, mostOf, formAt}
+use Rattle.frame_form.specs.Forms.{mostOf, formAt}
 use Rattle.frame_kinds.specs.declared.Found.{Found}
-use Rattle.frame_kinds.specs.declared.Found.the-variants.{Known, Unknown}
+use Rattle.frame_kinds.specs.declared.Found.the-variants.{Known, Route, Unknown}
 use Rattle.frame_reader.specs.Reading.{foundIn, headerLength, userLength, readChecks, readAnswerBy, readAnswer, faultAnswer}
 use Rattle.frame_reader_claims.specs.FirstFault.{IsFirst, Placed}
 use Rattle.frame_reader_claims.proofs.FirstFault.{first-fault}
@@ -36,14 +36,15 @@ checks-of : (form : Form) (frame : List ℕ) (why : Refusal) (at : ℕ) → read
 unfolding readOf
 checks-of form frame why at e = go (readChecks form frame) (foundIn frame) refl refl e
   where
-    go : (c : Checked) (f : Found) → readChecks form frame ≡ c → foundIn frame ≡ f → readBy c f (segOf form) frame ≡ NotRead why at → readChecks form frame ≡ refusedAt why at
+    go : (c : Checked) (f : Found) → readChecks form frame ≡ c → foundIn frame ≡ f → readBy c f form frame ≡ NotRead why at → readChecks form frame ≡ refusedAt why at
     go (refusedAt w a) f ec ef h = ec ∙ same-refusal w why a at h
     go passed (Known k) ec ef h = let z : _≡_ {A = ℕ} 0 1 = cc in absurd (omega arith)
+    go passed Route ec ef h = let z : _≡_ {A = ℕ} 0 1 = cc in absurd (omega arith)
     go passed Unknown ec ef h = absurd (never-unknown form frame ec ef)
 
 read-of : (form : Form) (frame : List ℕ) (why : Refusal) (at : ℕ) → readChecks form frame ≡ refusedAt why at → readOf form frame ≡ NotRead why at
 unfolding readOf
-read-of form frame why at e = ap (λ (c : Checked). readBy c (foundIn frame) (segOf form) frame) e
+read-of form frame why at e = ap (λ (c : Checked). readBy c (foundIn frame) form frame) e
 
 typed : FaultOfTyped
 typed = record {
@@ -92,8 +93,8 @@ Answers form frame number at =
 
 module _ (form : ℕ) (frame : List ℕ) (places : ℕ) where
   by-checks : (c : Checked) → readChecks (formAt form) frame ≡ c
-      → Answers (formAt form) frame (readAnswerBy c (headerLength (foundIn frame)) (userLength (foundIn frame) (segOf (formAt form)) frame) places % 256) (positionOf c)
-  by-checks passed e = inl (refl, open-number (leb 10 places) (headerLength (foundIn frame) + 256 * userLength (foundIn frame) (segOf (formAt form)) frame))
+      → Answers (formAt form) frame (readAnswerBy c (headerLength (foundIn frame)) (userLength (foundIn frame) (formAt form) frame) places % 256) (positionOf c)
+  by-checks passed e = inl (refl, open-number (leb 10 places) (headerLength (foundIn frame) + 256 * userLength (foundIn frame) (formAt form) frame))
   by-checks (refusedAt why at) e = inr (
     told (formAt form) frame why at (first-fault .placed (formAt form) frame why at e),
     λ h.

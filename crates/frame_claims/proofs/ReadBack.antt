@@ -14,21 +14,22 @@ use Rattle.frame_fields.specs.Rows.{AreBytes}
 use Rattle.frame_form.specs.declared.Form.{Form}
 use Rattle.frame_form.specs.Forms.{segOf, isLong}
 use Rattle.frame_form.specs.Segments.{frameLength}
+use Rattle.frame_writer.proofs.Verdicts.{accepted, accepts}
 use Rattle.frame.specs.declared.Packet.{Packet}
 use Rattle.frame.specs.declared.Written.the-variants.{Done as WrittenDone}
 use Rattle.frame.specs.declared.UserData.{UserData}
 use Rattle.frame.specs.declared.Read.the-variants.{Packet as PacketRead}
-use Rattle.frame.specs.Writing.{lengthOf, frameOf, frameVerdict, writtenBy, writeOf, writeOutput}
+use Rattle.frame.specs.Writing.{lengthOf, fits, frameOf, frameVerdict, writtenBy, writeOf, writeOutput}
 use Rattle.frame.specs.Reading.{readOf, partOf, placeOf}
 use Rattle.frame_claims.specs.ReadBack.{WrittenIsRead, ReadIsWritten, ReadBack}
-use Rattle.frame.proofs.Frames.{written-done, accepted, accepts, frame-length, output-is}
+use Rattle.frame.proofs.Frames.{written-done, frame-length, output-is}
 use Rattle.frame_claims.proofs.ByLayout.{by-layout}
 
 written-is-read : (form : Form) (p : Packet) (user out : List ℕ) (n : ℕ) → writeOf form p (length user) (length out) ≡ WrittenDone n → WrittenIsRead form p user out n
 unfolding writeOf
 written-is-read form p user out n e =
     let w = written-done (frameVerdict form p (length user) (length out)) (frameLength (segOf form) (lengthOf p (length user))) n e in
-    let a = accepted form p (length user) (length out) (w .0) in
+    let a = accepted form (fits form p (length user)) (lengthOf p (length user)) (length out) (w .0) in
     let F = frameOf form p user in
     let front : take n (writeOutput form p user out) ≡ F =
     ap (take n) (output-is form p user out (w .0)) ∙ take-at F (drop (length F) out) n (frame-length form p user ∙ w .1) in
@@ -46,7 +47,7 @@ read-is-written form frame p place out long bytes e room =
     let user = partOf frame place in
     let fills : frameLength (segOf form) (lengthOf p (length user)) ≡ length frame = sym (frame-length form p user) ∙ ap length (sym (f .same)) in
     let v : frameVerdict form p (length user) (length out) ≡ Done =
-    accepts form p (length user) (length out)
+    accepts form (fits form p (length user)) (lengthOf p (length user)) (length out)
     (record { good = f .holds .good; fit = f .holds .fit; long = long; most = f .holds .most; room-enough = omega (arith, fills, room) }) in
     record {
       answer =

@@ -14,7 +14,7 @@ use Rattle.frame_writer.specs.Writing.{outputBy}
 use Rattle.frame.specs.Writing.{writtenNumber, writtenBytes, lengthOf, frameOf, frameVerdict, writtenBy, writeOf, writeOutput}
 use Rattle.frame_claims.specs.Refusing.{RefusalsChangeNothing}
 
-write-by : (v : Verdict) (n : ℕ) (frame out : List ℕ) → writtenNumber (writtenBy v n) ≢ 0 → (writtenBytes (writtenBy v n) ≡ 0) × (outputBy v frame out ≡ out)
+pub write-by : (v : Verdict) (n : ℕ) (frame out : List ℕ) → writtenNumber (writtenBy v n) ≢ 0 → (writtenBytes (writtenBy v n) ≡ 0) × (outputBy v frame out ≡ out)
 write-by Done n frame out h = absurd (h refl)
 write-by (Refused why) n frame out h = (refl, refl)
 

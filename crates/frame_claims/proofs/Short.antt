@@ -21,7 +21,7 @@ use Rattle.frame_form.specs.Forms.{segOf, mostOf, formValid, isLong, formAt}
 use Rattle.frame_form.specs.Segments.{frameLength}
 use Rattle.frame_form.proofs.Forms.{at-short, long-at}
 use Rattle.frame_kinds.specs.declared.Found.{Found}
-use Rattle.frame_kinds.specs.declared.Found.the-variants.{Known, Unknown}
+use Rattle.frame_kinds.specs.declared.Found.the-variants.{Known, Route, Unknown}
 use Rattle.frame_kinds.specs.Kinds.{kindAt}
 use Rattle.frame_reader.specs.Reading.{foundIn, headerLength, userLength, readChecks, readAnswerBy, readAnswer}
 use Rattle.frame_writer.specs.Writing.{packetSize, writeVerdict, answerBy, placesFit, writeAnswerBy, writeAnswer}
@@ -36,16 +36,16 @@ use Rattle.frame_claims.proofs.Bytes.{writtenAnswer, answer-of}
 -- ---- writing
 
 -- the form is valid; then 1 and 23, before all others
-by-fit : (b : Bool) (len : ℕ) → writtenBy (check b OutOfRange (Refused ShortForm)) len ≡ NotWritten (cond b ShortForm OutOfRange)
+pub by-fit : (b : Bool) (len : ℕ) → writtenBy (check b OutOfRange (Refused ShortForm)) len ≡ NotWritten (cond b ShortForm OutOfRange)
 by-fit true len = refl
 by-fit false len = refl
 
-in-short : (p : Packet) (user room : ℕ) → writeOf ShortUplink p user room ≡ NotWritten (cond (fits p user) ShortForm OutOfRange)
+in-short : (p : Packet) (user room : ℕ) → writeOf ShortUplink p user room ≡ NotWritten (cond (fits ShortUplink p user) ShortForm OutOfRange)
 unfolding writeOf writeVerdict
-in-short p user room = by-fit (fits p user) (frameLength (segOf ShortUplink) (lengthOf p user))
+in-short p user room = by-fit (fits ShortUplink p user) (frameLength (segOf ShortUplink) (lengthOf p user))
 
 -- the checks in a long form: 23 is none of them
-never-long : (form : Form) (fit : Bool) (n room : ℕ) → isLong form ≡ true → verdictNumber (writeVerdict form fit n room) ≢ 23
+pub never-long : (form : Form) (fit : Bool) (n room : ℕ) → isLong form ≡ true → verdictNumber (writeVerdict form fit n room) ≢ 23
 unfolding writeVerdict
 never-long form fit n room long =
     let r = check (leb (frameLength (segOf form) n) room) OutputTooShort Done in
@@ -57,14 +57,14 @@ never-long form fit n room long =
     check-never 23 (formValid form) OutOfRange (check fit OutOfRange (check (isLong form) ShortForm m)) (λ e. omega arith) never-f
 
 -- a writer's answer has the number of its checks
-number-by : (v : Verdict) (len : ℕ) → writtenNumber (writtenBy v len) ≡ verdictNumber v
+pub number-by : (v : Verdict) (len : ℕ) → writtenNumber (writtenBy v len) ≡ verdictNumber v
 number-by Done len = refl
 number-by (Refused why) len = refl
 
 in-long : (form : Form) (p : Packet) (user room : ℕ) → isLong form ≡ true → writtenNumber (writeOf form p user room) ≢ 23
 unfolding writeOf
 in-long form p user room long e =
-    never-long form (fits p user) (lengthOf p user) room long
+    never-long form (fits form p user) (lengthOf p user) room long
     (sym (number-by (frameVerdict form p user room) (frameLength (segOf form) (lengthOf p user))) ∙ e)
 
 pub short-not-written : ShortNotWritten
@@ -78,7 +78,8 @@ Answered form room x = (x ≡ 1) ⊎ ((fit : Bool) × (n : ℕ) × (x ≡ answer
 
 module _ (form : ℕ) (bytes : List ℕ) (user room : ℕ) where
   by-kind : (found : Found) → Answered (formAt form) room (writeAnswerBy found form (drop 1 bytes) user room)
-  by-kind (Known k) = inr (placesFit k (drop 1 bytes) user, packetSize k user, refl)
+  by-kind (Known k) = inr (placesFit (formAt form) k (drop 1 bytes) user, packetSize k user, refl)
+  by-kind Route = inl refl
   by-kind Unknown = inl refl
 
   by-ten : (b : Bool) → Answered (formAt form) room (cond b (writeAnswerBy (kindAt (getD bytes 0 0)) form (drop 1 bytes) user room) (numberOf OutOfRange))
@@ -103,9 +104,9 @@ short-answer : (b : Bool) → writtenAnswer (NotWritten (cond b ShortForm OutOfR
 short-answer true = refl
 short-answer false = refl
 
-short-packet : (p : Packet) (user room : ℕ) → writtenAnswer (writeOf (formAt 0) p user room) ≡ cond (fits p user) 23 1
+short-packet : (p : Packet) (user room : ℕ) → writtenAnswer (writeOf (formAt 0) p user room) ≡ cond (fits ShortUplink p user) 23 1
 short-packet p user room =
-    ap (λ (f : Form). writtenAnswer (writeOf f p user room)) (at-short 0 refl) ∙ ap writtenAnswer (in-short p user room) ∙ short-answer (fits p user)
+    ap (λ (f : Form). writtenAnswer (writeOf f p user room)) (at-short 0 refl) ∙ ap writtenAnswer (in-short p user room) ∙ short-answer (fits ShortUplink p user)
 
 one-of : (b : Bool) (x : ℕ) → x ≡ cond b 23 1 → (x ≡ 1) ⊎ (x ≡ 23)
 one-of true x e = inr e
@@ -137,16 +138,16 @@ by-places : (b : Bool) (n : ℕ) → cond b (256 * n) (numberOf OutputTooShort) 
 by-places true n e = omega (arith, e)
 by-places false n e = omega (arith, e)
 
-by-checks : (c : Checked) (found : Found) (seg start user places : ℕ) (frame : List ℕ) → readNumber (readBy c found seg frame) ≢ 23
+by-checks : (c : Checked) (found : Found) (form : Form) (start user places : ℕ) (frame : List ℕ) → readNumber (readBy c found form frame) ≢ 23
     → readAnswerBy c start user places % 256 ≢ 23
-by-checks passed found seg start user places frame h e = by-places (leb 10 places) (start + 256 * user) e
-by-checks (refusedAt why at) found seg start user places frame h e = h (omega (arith, number-range why, e))
+by-checks passed found form start user places frame h e = by-places (leb 10 places) (start + 256 * user) e
+by-checks (refusedAt why at) found form start user places frame h e = h (omega (arith, number-range why, e))
 
 bytes-reading : (form : ℕ) (frame : List ℕ) (places : ℕ) → readAnswer form frame places % 256 ≢ 23
 unfolding readAnswer readOf
 bytes-reading form frame places =
-    by-checks (readChecks (formAt form) frame) (foundIn frame) (segOf (formAt form)) (headerLength (foundIn frame))
-    (userLength (foundIn frame) (segOf (formAt form)) frame) places frame (read-not-short (formAt form) frame)
+    by-checks (readChecks (formAt form) frame) (foundIn frame) (formAt form) (headerLength (foundIn frame))
+    (userLength (foundIn frame) (formAt form) frame) places frame (read-not-short (formAt form) frame)
 
 pub short-bytes-not-written : ShortBytesNotWritten
 short-bytes-not-written = record {

@@ -1,15 +1,16 @@
--- The proofs of the claims about packets in bytes: one line for each kind, and one case for each
+-- The proofs of the claims about packets in bytes: laws over every kind, and one case for each
 -- check.
 -- Assumes nothing.
-use mathlib.Core.Path.{_≡_, refl, sym, ap, _∙_, subst}
+use mathlib.Core.Path.{_≡_, refl, sym, ap, ap₂, _∙_}
 use mathlib.Core.Bool.{Bool, true, false, cond, _&&_, _||_, and-true}
 use mathlib.Core.Logic.{_≢_}
 use mathlib.Core.List.{List, [], _∷_, _++_}
-use Prim.Native.Nat.{ℕ, zero, suc, _+_, _*_, _/_, _%_}
+use Prim.Native.Nat.{ℕ, suc, _+_, _-_, _*_, _/_, _%_, _≤_}
 use native.Mathlib.Omega.{arith}
 use lib.Dec.{leb, eqb}
-use lib.ListN.{length, getD, take, drop}
-use borrow.Author.Tests.{ne-eqb}
+use lib.ListN.{length, getD, take, drop, replicate, length-drop, take-append-drop}
+use lib.Seq.{getD-take, take-at, drop-at, length-take-le}
+use borrow.Author.Tests.{eqb-true}
 use Rattle.refusal.specs.declared.Refusal.the-variants.{OutOfRange, OutputTooShort}
 use Rattle.refusal.specs.declared.Verdict.{Verdict}
 use Rattle.refusal.specs.declared.Verdict.the-variants.{Done, Refused}
@@ -17,110 +18,145 @@ use Rattle.refusal.specs.Numbers.{numberOf}
 use Rattle.refusal.specs.Positions.{Checked, passed, refusedAt}
 use Rattle.refusal.proofs.Checks.{both-true}
 use Rattle.refusal.proofs.Numbers.{number-alone}
-use Rattle.lists.specs.Lists.{listFrom, over}
-use Rattle.lists.proofs.Lists.{is-from}
-use Rattle.frame_fields.specs.Layouts.{fields, hasLv, within}
+use Rattle.lists.specs.Lists.{over}
+use Rattle.little.specs.Little.{flag}
+use Rattle.frame_fields.specs.Layouts.{Field, fixed, free, lv, fields, hasLv, within}
+use Rattle.frame_form.specs.declared.Form.{Form}
 use Rattle.frame_form.specs.Forms.{formAt, segOf}
 use Rattle.frame_form.specs.Segments.{frameLength}
 use Rattle.frame_form.specs.Frames.{allZero}
-use Rattle.frame_form.proofs.Frames.{zero-zeros}
+use Rattle.frame_form.proofs.Frames.{zeros-zero, zero-zeros}
 use Rattle.frame_kinds.specs.declared.Kind.{Kind}
-use Rattle.frame_kinds.specs.declared.Kind.the-variants.{Data, ClearRequest, ClearConfirmation}
 use Rattle.frame_kinds.specs.declared.Found.{Found}
-use Rattle.frame_kinds.specs.declared.Found.the-variants.{Known, Unknown}
-use Rattle.frame_kinds.specs.Kinds.{layoutOf, kindNumber, kindAt, valueCount, tenBytes}
-use Rattle.frame_kinds.proofs.Stored.{number-back}
+use Rattle.frame_kinds.specs.declared.Found.the-variants.{Known, Route, Unknown}
+use Rattle.frame_kinds.specs.Kinds.{layoutIn, layoutOf, kinds, kindNumber, routeNumber, firstNumbered, kindAt, freeCount, valueCount, tenOf, tenBytes}
+use Rattle.frame_kinds.proofs.Stored.{number-back, values-few}
+use Rattle.frame_kinds.proofs.Table.{count-in}
 use Rattle.frame_reader.specs.Reading.{foundIn, headerLength, userLength, readChecks, readAnswerBy, readAnswer, packetIn, readBytesBy, readBytes}
 use Rattle.frame_writer.specs.Writing.{packetSize, valuesFit, frameBy, outputBy, answerBy, placesFit, placesVerdict, writeAnswerBy, writeAnswer, writeBytesBy, writeBytes}
 use Rattle.frame.specs.declared.Packet.{Packet}
-use Rattle.frame.specs.declared.Packet.the-variants.{Data as DataPacket, ClearRequest as RequestPacket, ClearConfirmation as ConfirmationPacket}
-use Rattle.frame.specs.Packets.{kindOf, packetOf, packetBytes, kindOr, packetAt}
+use Rattle.frame.specs.Packets.{kindOf, valuesOf, packetOf, packetBytes, kindOr, packetAt}
 use Rattle.frame.specs.Writing.{fits}
-use Rattle.frame.proofs.KindLaws.{flag-read, values-made}
+use Rattle.frame.proofs.KindLaws.{kept, facts, packet-made, kind-made, values-made}
 use Rattle.frame.proofs.Ten.{ten}
 use Rattle.frame_claims.specs.Stored.{PacketBack, RoundTrips, RefusedBytesChangeNothing}
 
+-- ---- a packet's values, and the places that follow them
+
+-- a packet keeps no more values than there are free fields
+kept-cut : (fs : List Field) (vs : List ℕ) (c i : ℕ) → i + freeCount fs ≤ c → kept fs (take c vs) i ≡ kept fs vs i
+kept-cut [] vs c i h = refl
+kept-cut (fixed w v ∷ fs) vs c i h = kept-cut fs vs c i h
+kept-cut (lv w ∷ fs) vs c i h = kept-cut fs vs c i h
+kept-cut (free w ∷ fs) vs c i h =
+    let here : getD (take c vs) i 0 ≡ getD vs i 0 = getD-take c vs i 0 (omega arith) in
+    λ j. cond (eqb w 1) (flag (eqb (here j) 1)) (here j) ∷ kept-cut fs vs c (suc i) (omega arith) j
+
+kept-length : (fs : List Field) (vs : List ℕ) (i : ℕ) → length (kept fs vs i) ≡ freeCount fs
+kept-length [] vs i = refl
+kept-length (fixed w v ∷ fs) vs i = kept-length fs vs i
+kept-length (lv w ∷ fs) vs i = kept-length fs vs i
+kept-length (free w ∷ fs) vs i = ap suc (kept-length fs vs (suc i))
+
+-- the packet of a kind is that of the values, whatever follows them
+values-cut : (k : Kind) (vs : List ℕ) → valuesOf (packetOf k (take (valueCount k) vs)) ≡ valuesOf (packetOf k vs)
+values-cut k vs =
+    let few : 0 + freeCount (fields (layoutIn true k)) ≤ valueCount k = omega (arith, count-in true k) in
+    facts true k .keeps (take (valueCount k) vs) ∙ kept-cut (fields (layoutIn true k)) vs (valueCount k) 0 few ∙ sym (facts true k .keeps vs)
+
+made-of : (k : Kind) (vs : List ℕ) → packetOf k (valuesOf (packetOf k vs)) ≡ packetOf k vs
+made-of k vs = ap (λ (j : Kind). packetOf j (valuesOf (packetOf k vs))) (sym (kind-made k vs)) ∙ packet-made (packetOf k vs)
+
+packet-cut : (k : Kind) (vs : List ℕ) → packetOf k vs ≡ packetOf k (take (valueCount k) vs)
+packet-cut k vs = sym (made-of k vs) ∙ ap (packetOf k) (sym (values-cut k vs)) ∙ made-of k (take (valueCount k) vs)
+
+-- a packet has as many values as its kind
+counted : (p : Packet) → length (valuesOf p) ≡ valueCount (kindOf p)
+counted p =
+    let k = kindOf p in
+    ap (λ (q : Packet). length (valuesOf q)) (sym (packet-made p)) ∙ ap length (facts true k .keeps (valuesOf p))
+    ∙ kept-length (fields (layoutIn true k)) (valuesOf p) 0 ∙ count-in true k
+
 -- ---- a packet in its ten bytes
 
-places-fit : (p : Packet) (user : ℕ) → placesFit (kindOf p) (drop 1 (packetBytes p)) user ≡ fits p user
-unfolding placesFit tenBytes
-places-fit (DataPacket d) user = and-true (fits (DataPacket d) user)
-places-fit (RequestPacket d) user = and-true (fits (RequestPacket d) user)
-places-fit (ConfirmationPacket d) user = and-true (fits (ConfirmationPacket d) user)
+abbrev placesOf : Packet → List ℕ
+placesOf p = valuesOf p ++ replicate (9 - length (valuesOf p)) 0
+
+pub values-taken : (p : Packet) → take (valueCount (kindOf p)) (placesOf p) ≡ valuesOf p
+values-taken p = take-at (valuesOf p) (replicate (9 - length (valuesOf p)) 0) (valueCount (kindOf p)) (counted p)
+
+places-fit : (p : Packet) (form : Form) (user : ℕ) → placesFit form (kindOf p) (placesOf p) user ≡ fits form p user
+unfolding placesFit
+places-fit p form user =
+    let zeros : List ℕ = replicate (9 - length (valuesOf p)) 0 in
+    let none : allZero (drop (valueCount (kindOf p)) (placesOf p)) ≡ true =
+    ap allZero (drop-at (valuesOf p) zeros (valueCount (kindOf p)) (counted p)) ∙ zeros-zero (9 - length (valuesOf p)) in
+    ap₂ (λ (vs : List ℕ) (b : Bool). valuesFit form (kindOf p) vs user && b) (values-taken p) none ∙ and-true (fits form p user)
 
 same-packet : (p : Packet) → packetAt (packetBytes p) ≡ p
-unfolding packetAt tenBytes kindAt
-same-packet (DataPacket d) = rw (flag-read (d .m))
-same-packet (RequestPacket d) = rw (flag-read (d .s), flag-read (d .f))
-same-packet (ConfirmationPacket d) = refl
+unfolding packetAt tenOf
+same-packet p =
+    ap (λ (found : Found). packetOf (kindOr found) (placesOf p)) (number-back (kindOf p))
+    ∙ packet-cut (kindOf p) (placesOf p) ∙ ap (packetOf (kindOf p)) (values-taken p) ∙ packet-made p
 
 packet-back : (p : Packet) → PacketBack p
-unfolding tenBytes
+unfolding tenOf
 packet-back p = record { ten = ten p; kind = number-back (kindOf p); places = places-fit p; back = same-packet p }
 
 -- ---- ten bytes that are taken as a packet
 
--- the number of a kind that is found, 3 for none
-abbrev foundNumber : Found → ℕ
-foundNumber (Known k) = kindNumber k
-foundNumber Unknown = 3
-
-at-none : (n : ℕ) → (n ≡ 0 → ⊥) → (n ≡ 1 → ⊥) → (n ≡ 2 → ⊥) → kindAt n ≡ Unknown
-unfolding kindAt
-at-none n z o t = rw (ne-eqb n 0 z, ne-eqb n 1 o, ne-eqb n 2 t)
-
 -- only its own number names a kind
+numbered : (ks : List Kind) (n : ℕ) (k : Kind) → firstNumbered ks n ≡ Known k → n ≡ kindNumber k
+numbered [] n k e = go (eqb n routeNumber) e
+  where
+    go : (b : Bool) → cond b Route Unknown ≡ Known k → n ≡ kindNumber k
+    go true h = let z : _≡_ {A = ℕ} 0 1 = cc in absurd (omega arith)
+    go false h = let z : _≡_ {A = ℕ} 0 1 = cc in absurd (omega arith)
+numbered (j ∷ ks) n k e = go (eqb n (kindNumber j)) refl e (numbered ks n k)
+  where
+    go : (b : Bool) → eqb n (kindNumber j) ≡ b → cond b (Known j) (firstNumbered ks n) ≡ Known k → (firstNumbered ks n ≡ Known k → n ≡ kindNumber k) → n ≡ kindNumber k
+    go true q h rest = let same : j ≡ k = cc in eqb-true n (kindNumber j) q ∙ ap kindNumber same
+    go false q h rest = rest h
+
 known-number : (n : ℕ) (k : Kind) → kindAt n ≡ Known k → n ≡ kindNumber k
 unfolding kindAt
-known-number zero k e = ap foundNumber e
-known-number (suc zero) k e = ap foundNumber e
-known-number (suc (suc zero)) k e = ap foundNumber e
-known-number (suc (suc (suc n))) k e =
-    let none = at-none (suc (suc (suc n))) (λ h. omega arith) (λ h. omega arith) (λ h. omega arith) in
-    let z : _≡_ {A = ℕ} 0 1 = cc in absurd (omega arith)
+known-number n k e = numbered kinds n k e
 
 -- values that fit are within their fields, and the places past them are 0
-fit-parts : (k : Kind) (places : List ℕ) (user : ℕ) → placesFit k places user ≡ true
-    → (within (fields (layoutOf k)) (take (valueCount k) places) ≡ true) × (allZero (drop (valueCount k) places) ≡ true)
+fit-parts : (form : Form) (k : Kind) (places : List ℕ) (user : ℕ) → placesFit form k places user ≡ true
+    → (within (fields (layoutOf form k)) (take (valueCount k) places) ≡ true) × (allZero (drop (valueCount k) places) ≡ true)
 unfolding placesFit valuesFit
-fit-parts k places user e =
+fit-parts form k places user e =
     let values = take (valueCount k) places in
-    let a = both-true (within (fields (layoutOf k)) values && (hasLv (fields (layoutOf k)) || eqb user 0)) (allZero (drop (valueCount k) places)) e in
-    (both-true (within (fields (layoutOf k)) values) (hasLv (fields (layoutOf k)) || eqb user 0) (a .0) .0, a .1)
+    let fs = fields (layoutOf form k) in
+    let a = both-true (within fs values && (hasLv fs || eqb user 0)) (allZero (drop (valueCount k) places)) e in
+    (both-true (within fs values) (hasLv fs || eqb user 0) (a .0) .0, a .1)
+
+-- nine places of which those past the values are 0 are the values and zeros
+nine : (c : ℕ) (places : List ℕ) → c ≤ 9 → length places ≡ 9 → allZero (drop c places) ≡ true
+    → take c places ++ replicate (9 - length (take c places)) 0 ≡ places
+nine c places few long zeros =
+    let here : length (take c places) ≡ c = length-take-le c places (omega arith) in
+    let left : 9 - length (take c places) ≡ length (drop c places) = omega (arith, here, long, length-drop c places) in
+    ap (λ (x : ℕ). take c places ++ replicate x 0) left ∙ ap (λ (l : List ℕ). take c places ++ l) (sym (zero-zeros (drop c places) zeros)) ∙ take-append-drop c places
 
 -- a list of ten bytes that is taken as a packet of kind k is that packet's
-abbrev Taken : Kind → ℕ → List ℕ → Type 0
-Taken k user bytes = kindAt (getD bytes 0 0) ≡ Known k → placesFit k (drop 1 bytes) user ≡ true → packetBytes (packetOf k (drop 1 bytes)) ≡ bytes
+taken : (form : Form) (bytes : List ℕ) (k : Kind) (user : ℕ) → length bytes ≡ 10 → kindAt (getD bytes 0 0) ≡ Known k
+    → placesFit form k (drop 1 bytes) user ≡ true → packetBytes (packetOf k (drop 1 bytes)) ≡ bytes
+unfolding tenOf
+taken form [] k user long kind fit = absurd (omega arith)
+taken form (n ∷ places) k user long kind fit =
+    let c = valueCount k in
+    let parts = fit-parts form k places user fit in
+    let values : valuesOf (packetOf k places) ≡ take c places = sym (values-cut k places) ∙ values-made form k (take c places) (parts .0) in
+    ap₂ tenBytes (kind-made k places) values
+    ∙ ap₂ (λ (m : ℕ) (l : List ℕ). m ∷ l) (sym (known-number n k kind)) (nine c places (values-few k) (omega arith) (parts .1))
 
-spelled-back : (k : Kind) (user n a b c d e f g h i : ℕ) → Taken k user (n ∷ a ∷ b ∷ c ∷ d ∷ e ∷ f ∷ g ∷ h ∷ i ∷ [])
-unfolding tenBytes
-spelled-back Data user n a b c d e f g h i kind fit =
-    let parts = fit-parts Data (a ∷ b ∷ c ∷ d ∷ e ∷ f ∷ g ∷ h ∷ i ∷ []) user fit in
-    let zeros = sym (zero-zeros (f ∷ g ∷ h ∷ i ∷ []) (parts .1)) in
-    let values = values-made Data (a ∷ b ∷ c ∷ d ∷ e ∷ []) (parts .0) in
-    λ j. sym (known-number n Data kind) j ∷ (values j ++ zeros j)
-spelled-back ClearRequest user n a b c d e f g h i kind fit =
-    let parts = fit-parts ClearRequest (a ∷ b ∷ c ∷ d ∷ e ∷ f ∷ g ∷ h ∷ i ∷ []) user fit in
-    let values = values-made ClearRequest (a ∷ b ∷ c ∷ d ∷ e ∷ f ∷ g ∷ h ∷ i ∷ []) (parts .0) in
-    λ j. sym (known-number n ClearRequest kind) j ∷ values j
-spelled-back ClearConfirmation user n a b c d e f g h i kind fit =
-    let parts = fit-parts ClearConfirmation (a ∷ b ∷ c ∷ d ∷ e ∷ f ∷ g ∷ h ∷ i ∷ []) user fit in
-    let zeros = sym (zero-zeros (f ∷ g ∷ h ∷ i ∷ []) (parts .1)) in
-    λ j. sym (known-number n ClearConfirmation kind) j ∷ a ∷ b ∷ c ∷ d ∷ e ∷ zeros j
-
--- a list is given by its elements: one of a known length is then spelled out by computation
-spelled : (n : ℕ) (vs : List ℕ) → length vs ≡ n → vs ≡ listFrom 0 n (λ i. getD vs i 0)
-spelled n vs e = is-from n vs (λ i. getD vs i 0) e (λ i h. refl)
-
-taken : (bytes : List ℕ) (k : Kind) (user : ℕ) → length bytes ≡ 10 → Taken k user bytes
-unfolding listFrom
-taken bytes k user long = subst (Taken k user) (sym (spelled 10 bytes long)) (spelled-back k user _ _ _ _ _ _ _ _ _ _)
-
-bytes-back : (bytes : List ℕ) (k : Kind) (user : ℕ) → length bytes ≡ 10 → kindAt (getD bytes 0 0) ≡ Known k
-    → placesFit k (drop 1 bytes) user ≡ true → packetBytes (packetAt bytes) ≡ bytes
+bytes-back : (form : Form) (bytes : List ℕ) (k : Kind) (user : ℕ) → length bytes ≡ 10 → kindAt (getD bytes 0 0) ≡ Known k
+    → placesFit form k (drop 1 bytes) user ≡ true → packetBytes (packetAt bytes) ≡ bytes
 unfolding packetAt
-bytes-back bytes k user long kind fit =
-    ap (λ (found : Found). packetBytes (packetOf (kindOr found) (drop 1 bytes))) kind ∙ taken bytes k user long kind fit
+bytes-back form bytes k user long kind fit =
+    ap (λ (found : Found). packetBytes (packetOf (kindOr found) (drop 1 bytes))) kind ∙ taken form bytes k user long kind fit
 
 pub round-trips : RoundTrips
 round-trips = record { packet-back = packet-back; bytes-back = bytes-back }
@@ -137,6 +173,7 @@ module _ (form : ℕ) (bytes user out : List ℕ) where
   by-kind (Known k) h =
       by-verdict (placesVerdict (formAt form) k (drop 1 bytes) (length user) (length out)) (frameLength (segOf (formAt form)) (packetSize k (length user)))
       (frameBy (formAt form) k (take (valueCount k) (drop 1 bytes)) user) out h
+  by-kind Route h = (refl, refl)
   by-kind Unknown h = (refl, refl)
 
   by-ten : (b : Bool)
@@ -167,8 +204,8 @@ read-refused : (form : ℕ) (frame bytes : List ℕ) → readAnswer form frame (
     → (readBytes form frame bytes ≡ bytes) × (readAnswer form frame (length bytes) / 256 ≡ 0)
 unfolding readAnswer readBytes
 read-refused form frame bytes h =
-    by-checks (readChecks (formAt form) frame) (headerLength (foundIn frame)) (userLength (foundIn frame) (segOf (formAt form)) frame)
-    (packetIn (foundIn frame) frame) bytes h
+    by-checks (readChecks (formAt form) frame) (headerLength (foundIn frame)) (userLength (foundIn frame) (formAt form) frame)
+    (packetIn (foundIn frame) (formAt form) frame) bytes h
 
 pub refused-bytes-change-nothing : RefusedBytesChangeNothing
 refused-bytes-change-nothing = record { write = write-refused; read = read-refused }

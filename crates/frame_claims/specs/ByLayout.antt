@@ -22,7 +22,7 @@ use Rattle.frame.specs.Reading.{readOf, partOf, placeOf}
 -- value fits its field, and the packet is no longer than the form's largest
 pub record CanHold (form : Form) (p : Packet) (user : ℕ) : Type 0 where
   pub good : formValid form ≡ true
-  pub fit : fits p user ≡ true
+  pub fit : fits form p user ≡ true
   pub most : lengthOf p user ≤ mostOf form
 
 -- the reader answered that the frame holds packet p, with its user data at `place`

@@ -6,3 +6,4 @@ pub mod Refusing
 pub mod Bytes
 pub mod Stored
 pub mod Faults
+pub mod Routes

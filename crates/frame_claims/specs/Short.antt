@@ -22,7 +22,7 @@ use Rattle.frame.specs.Reading.{readNumber, readOf}
 pub record ShortNotWritten : Type 0 where
   -- in the short form, whatever the length of the packet and the room: 1 if a value does not fit
   -- its field, else 23
-  pub in-short : (p : Packet) (user room : ℕ) → writeOf ShortUplink p user room ≡ Refused (cond (fits p user) ShortForm OutOfRange)
+  pub in-short : (p : Packet) (user room : ℕ) → writeOf ShortUplink p user room ≡ Refused (cond (fits ShortUplink p user) ShortForm OutOfRange)
   -- in every long form, never
   pub in-long : (form : Form) (p : Packet) (user room : ℕ) → isLong form ≡ true → writtenNumber (writeOf form p user room) ≢ 23
   -- by reading, never, in any form
@@ -31,7 +31,7 @@ pub record ShortNotWritten : Type 0 where
 -- the same of the calls on lent bytes, where the short form has the number 0
 pub record ShortBytesNotWritten : Type 0 where
   -- ten bytes that are a packet: 1 if a value does not fit its field, else 23
-  pub in-short : (p : Packet) (user room : ℕ) → writeAnswer 0 (packetBytes p) user room ≡ cond (fits p user) 23 1
+  pub in-short : (p : Packet) (user room : ℕ) → writeAnswer 0 (packetBytes p) user room ≡ cond (fits ShortUplink p user) 23 1
   -- any bytes: one of the two
   pub never-written : (packet : List ℕ) (user room : ℕ) → (writeAnswer 0 packet user room ≡ 1) ⊎ (writeAnswer 0 packet user room ≡ 23)
   pub in-long : (form : ℕ) (packet : List ℕ) (user room : ℕ) → 1 ≤ form → writeAnswer form packet user room % 256 ≢ 23

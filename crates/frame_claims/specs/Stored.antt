@@ -9,6 +9,7 @@ use mathlib.Core.Logic.{_≢_}
 use mathlib.Core.List.{List}
 use Prim.Native.Nat.{ℕ, _%_, _/_}
 use lib.ListN.{length, getD, drop}
+use Rattle.frame_form.specs.declared.Form.{Form}
 use Rattle.frame_kinds.specs.declared.Kind.{Kind}
 use Rattle.frame_kinds.specs.declared.Found.the-variants.{Known}
 use Rattle.frame_kinds.specs.Kinds.{kindAt}
@@ -23,15 +24,15 @@ use Rattle.frame.specs.Writing.{fits}
 pub record PacketBack (p : Packet) : Type 0 where
   pub ten : length (packetBytes p) ≡ 10
   pub kind : kindAt (getD (packetBytes p) 0 0) ≡ Known (kindOf p)
-  pub places : (user : ℕ) → placesFit (kindOf p) (drop 1 (packetBytes p)) user ≡ fits p user
+  pub places : (form : Form) (user : ℕ) → placesFit form (kindOf p) (drop 1 (packetBytes p)) user ≡ fits form p user
   pub back : packetAt (packetBytes p) ≡ p
 
 -- this holds for every packet; and ten bytes that `write` takes as a packet of kind k are the bytes
 -- of that packet
 pub record RoundTrips : Type 0 where
   pub packet-back : (p : Packet) → PacketBack p
-  pub bytes-back : (bytes : List ℕ) (k : Kind) (user : ℕ) → length bytes ≡ 10 → kindAt (getD bytes 0 0) ≡ Known k
-      → placesFit k (drop 1 bytes) user ≡ true → packetBytes (packetAt bytes) ≡ bytes
+  pub bytes-back : (form : Form) (bytes : List ℕ) (k : Kind) (user : ℕ) → length bytes ≡ 10 → kindAt (getD bytes 0 0) ≡ Known k
+      → placesFit form k (drop 1 bytes) user ≡ true → packetBytes (packetAt bytes) ≡ bytes
 
 -- "A refusal returns its number, counts of 0 .. no lent byte changes": where the lowest byte of an
 -- answer is not 0, every lent byte is as it was, and the rest of the answer is 0

@@ -4,3 +4,5 @@ pub mod Rows
 pub mod Headers
 pub mod Masks
 pub mod Tags
+pub mod Sums
+pub mod Bytes

@@ -32,7 +32,7 @@ pub record Sound (m : ℕ) (l : Layout) : Type 0 where
   pub named : allFixed (l .kind) ≡ true
   pub bytewise : inBytes (fields l) 0 ≡ true
   pub single : oneLv (fields l) ≡ true
-  pub short : tagWidth l ≤ 8
+  pub short : tagWidth (l .kind) ≤ 8
 
 widths-append : (fs gs : List Field) → widths (fs ++ gs) ≡ widths fs ++ widths gs
 widths-append [] gs = refl
@@ -68,7 +68,7 @@ leading n k t r lt ht e =
 
 -- a header begins with the bits that identify its kind
 pub header-opens : (m u : ℕ) (l : Layout) (vs rest : List ℕ) → Sound m l → u ≤ m → within (fields l) vs ≡ true
-    → getD (header l u vs ++ rest) 0 0 / 2 ^ (8 - tagWidth l) ≡ tag l
+    → getD (header l u vs ++ rest) 0 0 / 2 ^ (8 - tagWidth (l .kind)) ≡ tag (l .kind)
 header-opens m u l vs rest sound hu fit = go (l .size) refl
   where
     range : InRange (widths (fields l)) (allValues (fields l) u vs)
@@ -77,31 +77,31 @@ header-opens m u l vs rest sound hu fit = go (l .size) refl
     parts : InRange (widths (l .kind)) (allValues (l .kind) 0 []) × InRange (widths (l .rest)) (allValues (l .rest) u vs)
     parts = parts-range (l .kind) (l .rest) m u vs (sound .named) (sound .values) range
 
-    number : headerNumber l u vs ≡ packAfter (tag l) (widths (l .rest)) (allValues (l .rest) u vs)
+    number : headerNumber l u vs ≡ packAfter (tag (l .kind)) (widths (l .rest)) (allValues (l .rest) u vs)
     number =
         ap₂ pack (widths-append (l .kind) (l .rest)) (fixed-first (l .kind) (l .rest) u vs (sound .named))
         ∙ pack-append 0 (widths (l .kind)) (allValues (l .kind) 0 []) (widths (l .rest)) (allValues (l .rest) u vs) (parts .0)
 
-    bits : tagWidth l + total (widths (l .rest)) ≡ total (eights (l .size))
+    bits : tagWidth (l .kind) + total (widths (l .rest)) ≡ total (eights (l .size))
     bits = sym (total-append (widths (l .kind)) (widths (l .rest))) ∙ ap total (sym (widths-append (l .kind) (l .rest))) ∙ sound .bits
 
-    go : (k : ℕ) → l .size ≡ k → getD (header l u vs ++ rest) 0 0 / 2 ^ (8 - tagWidth l) ≡ tag l
+    go : (k : ℕ) → l .size ≡ k → getD (header l u vs ++ rest) 0 0 / 2 ^ (8 - tagWidth (l .kind)) ≡ tag (l .kind)
     go zero e = absurd (omega (arith, sound .bytes, e))
     go (suc k) e =
         let n = headerNumber l u vs in
         let lt : n < 2 ^ total (eights (suc k)) =
         subst (λ (x : ℕ). n < 2 ^ x) (sound .bits ∙ ap (λ (x : ℕ). total (eights x)) e) (pack-lt (widths (fields l)) (allValues (fields l) u vs) range) in
-        ap (λ (x : ℕ). getD (bytesOf x n ++ rest) 0 0 / 2 ^ (8 - tagWidth l)) e
-        ∙ leading n k (tagWidth l) (total (widths (l .rest))) lt (sound .short) (bits ∙ ap (λ (x : ℕ). total (eights x)) e)
+        ap (λ (x : ℕ). getD (bytesOf x n ++ rest) 0 0 / 2 ^ (8 - tagWidth (l .kind))) e
+        ∙ leading n k (tagWidth (l .kind)) (total (widths (l .rest))) lt (sound .short) (bits ∙ ap (λ (x : ℕ). total (eights x)) e)
         ∙ ap (λ (x : ℕ). x / 2 ^ total (widths (l .rest))) number
-        ∙ pack-leads (tag l) (widths (l .rest)) (allValues (l .rest) u vs) (parts .1)
+        ∙ pack-leads (tag (l .kind)) (widths (l .rest)) (allValues (l .rest) u vs) (parts .1)
 
 -- the first bits distinguish two kinds: l has at most as many such bits as k, and they differ from
 -- the first bits of k
-abbrev pub apart : Layout → Layout → Bool
+abbrev pub apart : List Field → List Field → Bool
 apart l k = leb (tagWidth l) (tagWidth k) && not (eqb (tag k / 2 ^ (tagWidth k - tagWidth l)) (tag l))
 
-pub opens-not : (l k : Layout) (b : ℕ) → tagWidth k ≤ 8 → apart l k ≡ true → b / 2 ^ (8 - tagWidth k) ≡ tag k → opensWith l b ≡ false
+pub opens-not : (l k : List Field) (b : ℕ) → tagWidth k ≤ 8 → apart l k ≡ true → b / 2 ^ (8 - tagWidth k) ≡ tag k → opensWith l b ≡ false
 opens-not l k b short h e =
     let p = both-true (leb (tagWidth l) (tagWidth k)) (not (eqb (tag k / 2 ^ (tagWidth k - tagWidth l)) (tag l))) h in
     let wide : tagWidth l ≤ tagWidth k = leb-true (tagWidth l) (tagWidth k) (p .0) in

@@ -1,6 +1,6 @@
 -- Headers: a packet's header is a list of fields; how a header is written, and how its values are
--- read (document 01, "Forms and frames"). Crate `frame_kinds` defines the fields of each packet (its
--- specs/Kinds.antt).
+-- read (document 01, "Forms and frames"). Crate `frame_kinds` defines the fields of each packet
+-- (its specs/Kinds.antt).
 -- Assumes nothing.
 use mathlib.Core.Bool.{Bool, true, false, cond, _&&_}
 use mathlib.Core.List.{List, [], _∷_, _++_}
@@ -18,11 +18,15 @@ pub data Field : Type 0 where
   lv : ℕ → Field
 
 -- A packet's header: the leading fixed fields, whose bits identify the kind of packet; the other
--- fields; and the number of bytes of all of them.
+-- fields; the number of bytes of all of them; and what follows. That is user data, whose end LV
+-- tells, or nothing, if there is no LV field; or else strings, each with its length before it: the
+-- first one's length is the value of the header's last field, a byte, and the first free field
+-- tells whether there is a second.
 pub record Layout : Type 0 where
   pub kind : List Field
   pub rest : List Field
   pub size : ℕ
+  pub strings : Bool
 
 -- all fields, in their order
 abbrev pub fields : Layout → List Field
@@ -107,15 +111,17 @@ firstWrong (lv w ∷ fs) bit (x ∷ xs) none = firstWrong fs (bit + w) xs none
 abbrev pub wrongByte : Layout → List ℕ → ℕ
 wrongByte l frame = firstWrong (fields l) 0 (valuesIn l frame) (l .size)
 
--- the number of bits that identify the kind of packet
-abbrev pub tagWidth : Layout → ℕ
-tagWidth l = total (widths (l .kind))
+-- ---- the leading fixed fields fs, by which a kind is known
+
+-- the number of their bits
+abbrev pub tagWidth : List Field → ℕ
+tagWidth fs = total (widths fs)
 
 -- these bits, as a number
-abbrev pub tag : Layout → ℕ
-tag l = pack (widths (l .kind)) (allValues (l .kind) 0 [])
+abbrev pub tag : List Field → ℕ
+tag fs = pack (widths fs) (allValues fs 0 [])
 
--- a frame's first byte, `first`, begins with the bits that identify the kind (8 of them at most).
--- If this is false for every kind: "First bits of no known packet are refusal 3."
-abbrev pub opensWith : Layout → ℕ → Bool
-opensWith l first = eqb (first / 2 ^ (8 - tagWidth l)) (tag l)
+-- a frame's first byte, `first`, begins with these bits (8 of them at most). If this is false for
+-- every kind: "First bits of no known packet are refusal 3."
+abbrev pub opensWith : List Field → ℕ → Bool
+opensWith fs first = eqb (first / 2 ^ (8 - tagWidth fs)) (tag fs)

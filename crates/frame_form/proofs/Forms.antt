@@ -1,7 +1,7 @@
 -- Facts about the segments and the largest packets of the forms, proved form by form.
 -- Assumes nothing.
 use mathlib.Core.Path.{_≡_, refl, sym, ap, _∙_}
-use mathlib.Core.Bool.{Bool, true, false, cond, _&&_, true≢false}
+use mathlib.Core.Bool.{Bool, true, false, cond, _&&_, _||_, true≢false}
 use Prim.Native.Nat.{ℕ, _%_, _≤_}
 use native.Mathlib.Omega.{arith}
 use lib.Dec.{leb, eqb}
@@ -9,7 +9,7 @@ use borrow.Author.Tests.{leb-true, leb-false, le-leb, lt-leb, eq-eqb, ne-eqb, eq
 use Rattle.refusal.proofs.Checks.{both-true}
 use Rattle.frame_form.specs.declared.Form.{Form}
 use Rattle.frame_form.specs.declared.Form.the-variants.{ShortUplink, LongUplink, LongDownlink}
-use Rattle.frame_form.specs.Forms.{longSegment, segOf, mostOf, formValid, isLong, formAt, formNumber, formCode}
+use Rattle.frame_form.specs.Forms.{longSegment, segOf, mostOf, formValid, isLong, isUplink, formAt, formNumber, formCode}
 use Rattle.frame_form.specs.Segments.{wholeSegments}
 
 -- every segment holds a header
@@ -64,6 +64,14 @@ long-at n more = go (eqb n 17) refl
     go false e = ap isLong (at-downlink n (λ z. omega arith) (eqb-false n 17 e))
 
 -- ---- by the number
+
+pub uplink-at : (n : ℕ) → isUplink (formAt n) ≡ (eqb n 0 || eqb n 17)
+uplink-at n = go (eqb n 0) (eqb n 17) refl refl
+  where
+    go : (a b : Bool) → eqb n 0 ≡ a → eqb n 17 ≡ b → isUplink (formAt n) ≡ (a || b)
+    go true b e f = ap isUplink (at-short n (eqb-true n 0 e))
+    go false true e f = ap isUplink (at-long n (eqb-false n 0 e) (eqb-true n 17 f))
+    go false false e f = ap isUplink (at-downlink n (eqb-false n 0 e) (eqb-false n 17 f))
 
 pub segment-short : (n : ℕ) → n ≡ 0 → segOf (formAt n) ≡ 7
 segment-short n e = ap segOf (at-short n e)

@@ -65,7 +65,7 @@ none-between seg x y t ex ey e h =
 
 -- whole segments that hold n bytes, with less than a segment left over, have the length of the
 -- frame of n bytes
-whole-next : (seg len n : ℕ) → 1 ≤ seg → len % seg ≡ 0 → n ≤ len → len - n < seg → len ≡ frameLength seg n
+pub whole-next : (seg len n : ℕ) → 1 ≤ seg → len % seg ≡ 0 → n ≤ len → len - n < seg → len ≡ frameLength seg n
 whole-next seg len n some m h l = go (decLt len (frameLength seg n))
   where
     go : Dec (len < frameLength seg n) → len ≡ frameLength seg n
@@ -77,6 +77,16 @@ whole-next seg len n some m h l = go (decLt len (frameLength seg n))
         let t = len - frameLength seg n in
         let none : t ≡ 0 = none-between seg (frameLength seg n) len t (frame-whole seg n some) m (omega arith) (omega arith) in
         omega (arith, none)
+
+-- n bytes in whole segments: what lies past the frame of n bytes are whole segments too
+pub frame-end : (seg len n : ℕ) → 1 ≤ seg → len % seg ≡ 0 → n ≤ len → frameLength seg n ≡ len - (len - n) / seg * seg
+frame-end seg len n some m h =
+    let q = (len - n) / seg in
+    let d = div-add-mod' (len - n) seg in
+    let x = len - q * seg in
+    let split : len ≡ q * seg + x = omega (arith, d) in
+    let whole : x % seg ≡ 0 = sym (mul-add-mod-self-right q seg x) ∙ ap (λ (k : ℕ). k % seg) (sym split) ∙ m in
+    sym (whole-next seg x n some whole (omega (arith, d)) (omega (arith, d, mod-lt (len - n) some)))
 
 -- and no other whole segments have it
 pub whole-by : (seg len n : ℕ) → 1 ≤ seg → len % seg ≡ 0 → n ≤ len → ltb (len - n) seg ≡ eqb len (frameLength seg n)

@@ -36,6 +36,14 @@ isLong ShortUplink = false
 isLong LongUplink = true
 isLong (LongDownlink n) = true
 
+-- the direction: frames of an uplink form go up to the aircraft, those of a downlink form come down
+-- from it. Two packets have a layout for each (document 02, Q-4: "its ground form on uplink frames
+-- and its air form on downlink frames, so the frame's form says which")
+abbrev pub isUplink : Form → Bool
+isUplink ShortUplink = true
+isUplink LongUplink = true
+isUplink (LongDownlink n) = false
+
 -- the form with the number n, the one numbering that every call with a number for a form uses: 0 is
 -- the short uplink, 1 to 16 the long downlink with that many segments, 17 the long uplink; every
 -- other number gives a form that is not valid
@@ -48,8 +56,8 @@ formNumber ShortUplink = 0
 formNumber LongUplink = 17
 formNumber (LongDownlink n) = n
 
--- the number by which any form is handed on: that of a valid form, and 255, which is none, for every
--- other
+-- the number by which any form is handed on: that of a valid form, and 255, which is none, for
+-- every other
 unfoldable pub formCode : Form → ℕ
 formCode f = cond (formValid f) (formNumber f) 255
 

@@ -2,7 +2,7 @@
 // frames").
 ghost use mathlib.Core.Path.{_≡_};
 ghost use Prim.Native.Nat.{_≤_};
-ghost use Rattle.frame_form.specs.Forms.{segOf, mostOf, formValid, isLong, formAt, formNumber, formCode};
+ghost use Rattle.frame_form.specs.Forms.{segOf, mostOf, formValid, isLong, formAt, isUplink, formNumber, formCode};
 ghost use Rattle.frame_form.specs.Segments.{wholeSegments};
 
 // The form of a frame: it gives the size of a segment and the size of the largest packet.
@@ -140,4 +140,11 @@ pub fn is_whole_at(n: u8, len: usize) -> bool
         return len % 7 == 0;
     }
     len % 10 == 0
+}
+
+// Whether frames of the form with the number `n` go up to the aircraft.
+pub fn is_uplink_at(n: u8) -> bool
+    ensures { λ r. ⌜ r ≡ isUplink (formAt n) ⌝ }
+{
+    (n == 0) | (n == 17)
 }

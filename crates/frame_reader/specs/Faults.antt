@@ -7,24 +7,62 @@ use mathlib.Core.Bool.{Bool, true, cond, _&&_}
 use mathlib.Core.List.{List, [], _∷_}
 use Prim.Native.Nat.{ℕ, suc, _+_, _-_, min}
 use lib.Dec.{leb, ltb, eqb}
-use lib.ListN.{length, drop}
-use Rattle.frame_fields.specs.Layouts.{Layout, fields, hasLv, valuesIn, lvIn, wrongByte}
+use lib.ListN.{length, drop, getD}
+use Rattle.frame_fields.specs.Layouts.{Layout, fields, hasLv, valuesIn, freeValues, lvIn, wrongByte}
 use Rattle.frame_form.specs.Segments.{frameLength}
 
 -- LV, as the frame has it
 abbrev pub lvOf : Layout → List ℕ → ℕ
 lvOf l frame = lvIn (fields l) (valuesIn l frame)
 
--- the packet's length. With LV: all segments but the last are full, and LV bytes of the last one
--- are used. Without LV, the packet is its header
-unfoldable pub packetLength : ℕ → Layout → List ℕ → ℕ
-packetLength seg l frame = cond (hasLv (fields l)) (length frame - seg + lvOf l frame) (l .size)
+-- ---- strings, each with its length before it (`l .strings`)
 
--- LV is right, if there is one: it is "1 to the segment size", and the packet is no shorter than
--- its header, "With one segment, LV below the header length is refusal 3"
-unfoldable pub lvRight : ℕ → Layout → List ℕ → Bool
-lvRight seg l frame =
-    cond (hasLv (fields l)) (leb 1 (lvOf l frame) && (leb (lvOf l frame) seg && leb (l .size) (length frame - seg + lvOf l frame))) true
+-- the last of these values; 0 if there is none
+abbrev pub lastOf : List ℕ → ℕ
+lastOf [] = 0
+lastOf (x ∷ []) = x
+lastOf (x ∷ y ∷ ys) = lastOf (y ∷ ys)
+
+-- the end of the first string: the header's last field, of ROUTE it is RTL, is its length
+abbrev pub firstEnd : Layout → List ℕ → ℕ
+firstEnd l frame = l .size + lastOf (freeValues (fields l) (valuesIn l frame))
+
+-- whether there is a second: the first free field, of ROUTE it is OF, is 1
+abbrev pub hasSecond : Layout → List ℕ → Bool
+hasSecond l frame = eqb (getD (freeValues (fields l) (valuesIn l frame)) 0 0) 1
+
+-- the end of the last string: a second one has its length in the byte after the first
+abbrev pub stringsEnd : Layout → List ℕ → ℕ
+stringsEnd l frame = cond (hasSecond l frame) (firstEnd l frame + 1 + getD frame (firstEnd l frame) 0) (firstEnd l frame)
+
+-- the first length is right: neither its bytes "or the length after them, run past the frame"
+-- (document 02, Q-4)
+abbrev pub firstRight : Layout → List ℕ → Bool
+firstRight l frame = cond (hasSecond l frame) (ltb (firstEnd l frame) (length frame)) (leb (firstEnd l frame) (length frame))
+
+-- ---- the packet
+
+-- the packet's length. With LV: all segments but the last are full, and LV bytes of the last one
+-- are used. With strings, it ends where they do. Else the packet is its header
+unfoldable pub packetLength : ℕ → Layout → List ℕ → ℕ
+packetLength seg l frame =
+    cond (l .strings) (stringsEnd l frame)
+    (cond (hasLv (fields l)) (length frame - seg + lvOf l frame)
+    (l .size))
+
+-- what tells the packet's length is right. LV, if there is one, is "1 to the segment size", and the
+-- packet is no shorter than its header, "With one segment, LV below the header length is refusal
+-- 3". Strings do not run past the frame
+unfoldable pub lengthRight : ℕ → Layout → List ℕ → Bool
+lengthRight seg l frame =
+    cond (l .strings) (firstRight l frame && leb (stringsEnd l frame) (length frame))
+    (cond (hasLv (fields l)) (leb 1 (lvOf l frame) && (leb (lvOf l frame) seg && leb (l .size) (length frame - seg + lvOf l frame)))
+    true)
+
+-- the byte that is wrong if it is not: the header's last one, with LV or the first string's length;
+-- but if that length is right, the second one's
+unfoldable pub lengthByte : Layout → List ℕ → ℕ
+lengthByte l frame = cond (l .strings && firstRight l frame) (firstEnd l frame) (l .size - 1)
 
 -- how many zero bytes a list begins with
 abbrev pub zerosFirst : List ℕ → ℕ
@@ -38,10 +76,10 @@ unfoldable pub tailFault : ℕ → ℕ → List ℕ → ℕ
 tailFault seg n frame = min (frameLength seg n) (n + zerosFirst (drop n frame))
 
 -- the first fault of a frame that is read by the layout l, in frame order: a wrong fixed field or
--- fill in the header; then a wrong LV, which is in the header's last byte; then padding and bytes
--- past the segments. The frame's length if there is none
+-- fill in the header; then a wrong LV or length; then padding and bytes past the segments. The
+-- frame's length if there is none
 unfoldable pub firstFault : ℕ → Layout → List ℕ → ℕ
 firstFault seg l frame =
     cond (ltb (wrongByte l frame) (l .size)) (wrongByte l frame)
-    (cond (lvRight seg l frame) (tailFault seg (packetLength seg l frame) frame)
-    (l .size - 1))
+    (cond (lengthRight seg l frame) (tailFault seg (packetLength seg l frame) frame)
+    (lengthByte l frame))

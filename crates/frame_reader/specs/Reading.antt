@@ -15,10 +15,9 @@ use Rattle.frame_fields.specs.Layouts.{fields, valuesIn, freeValues}
 use Rattle.frame_form.specs.declared.Form.{Form}
 use Rattle.frame_form.specs.Forms.{segOf, mostOf, formValid, formAt}
 use Rattle.frame_form.specs.Segments.{wholeSegments}
-use Rattle.frame_kinds.specs.declared.Kind.{Kind}
 use Rattle.frame_kinds.specs.declared.Found.{Found}
-use Rattle.frame_kinds.specs.declared.Found.the-variants.{Known, Unknown}
-use Rattle.frame_kinds.specs.Kinds.{layoutOf, kinds, firstNamed, tenBytes}
+use Rattle.frame_kinds.specs.declared.Found.the-variants.{Known, Route, Unknown}
+use Rattle.frame_kinds.specs.Kinds.{sizeOf, layoutOf, routeLayout, kinds, firstNamed, routeNumber, tenOf, tenBytes}
 use Rattle.frame_reader.specs.Faults.{packetLength, firstFault}
 
 -- the kind of a frame: its first byte names it
@@ -27,36 +26,41 @@ foundIn frame = firstNamed kinds (getD frame 0 0)
 
 -- the first fault of a frame, once its kind is found or not; the frame's length if there is none.
 -- "First bits of no known packet are refusal 3": then it is the first byte
-abbrev pub faultOf : Found → ℕ → List ℕ → ℕ
-faultOf (Known k) seg frame = firstFault seg (layoutOf k) frame
-faultOf Unknown seg frame = 0
+abbrev pub faultOf : Found → Form → List ℕ → ℕ
+faultOf (Known k) form frame = firstFault (segOf form) (layoutOf form k) frame
+faultOf Route form frame = firstFault (segOf form) routeLayout frame
+faultOf Unknown form frame = 0
 
 -- the packet's length
-abbrev pub lengthIn : Found → ℕ → List ℕ → ℕ
-lengthIn (Known k) seg frame = packetLength seg (layoutOf k) frame
-lengthIn Unknown seg frame = 0
+abbrev pub lengthIn : Found → Form → List ℕ → ℕ
+lengthIn (Known k) form frame = packetLength (segOf form) (layoutOf form k) frame
+lengthIn Route form frame = packetLength (segOf form) routeLayout frame
+lengthIn Unknown form frame = 0
 
 -- the header's length
 abbrev pub headerLength : Found → ℕ
-headerLength (Known k) = layoutOf k .size
+headerLength (Known k) = sizeOf k
+headerLength Route = routeLayout .size
 headerLength Unknown = 0
 
--- the length of the user data: the packet without its header
-abbrev pub userLength : Found → ℕ → List ℕ → ℕ
-userLength found seg frame = lengthIn found seg frame - headerLength found
+-- the length of the user data: the packet without its header. Of a ROUTE it is what follows RTL:
+-- the table, and if OF = 1 ODL and the optional data
+abbrev pub userLength : Found → Form → List ℕ → ℕ
+userLength found form frame = lengthIn found form frame - headerLength found
 
 -- the values of the free fields
-abbrev pub valuesAs : Found → List ℕ → List ℕ
-valuesAs (Known k) frame = freeValues (fields (layoutOf k)) (valuesIn (layoutOf k) frame)
-valuesAs Unknown frame = []
+abbrev pub valuesAs : Found → Form → List ℕ → List ℕ
+valuesAs (Known k) form frame = freeValues (fields (layoutOf form k)) (valuesIn (layoutOf form k) frame)
+valuesAs Route form frame = freeValues (fields routeLayout) (valuesIn routeLayout frame)
+valuesAs Unknown form frame = []
 
 -- the four checks, each with the position that it gives
 unfoldable pub readChecks : Form → List ℕ → Checked
 readChecks form frame =
     checkAt (formValid form) OutOfRange 0
     (checkAt (wholeSegments (segOf form) (length frame)) Malformed (length frame)
-    (checkAt (eqb (faultOf (foundIn frame) (segOf form) frame) (length frame)) FormatError (faultOf (foundIn frame) (segOf form) frame)
-    (checkAt (leb (lengthIn (foundIn frame) (segOf form) frame) (mostOf form)) PacketTooLong (mostOf form)
+    (checkAt (eqb (faultOf (foundIn frame) form frame) (length frame)) FormatError (faultOf (foundIn frame) form frame)
+    (checkAt (leb (lengthIn (foundIn frame) form frame) (mostOf form)) PacketTooLong (mostOf form)
     passed)))
 
 -- ---- what the calls answer. A form is a number (`formAt`), an answer is one number
@@ -74,12 +78,13 @@ readAnswerBy (refusedAt why at) start user places = numberOf why
 -- the answer of `read`, with this many lent bytes for the packet
 unfoldable pub readAnswer : ℕ → List ℕ → ℕ → ℕ
 readAnswer form frame places =
-    readAnswerBy (readChecks (formAt form) frame) (headerLength (foundIn frame)) (userLength (foundIn frame) (segOf (formAt form)) frame) places
+    readAnswerBy (readChecks (formAt form) frame) (headerLength (foundIn frame)) (userLength (foundIn frame) (formAt form) frame) places
 
 -- the ten bytes of the packet that a frame holds
-abbrev pub packetIn : Found → List ℕ → List ℕ
-packetIn (Known k) frame = tenBytes k (valuesAs (Known k) frame)
-packetIn Unknown frame = []
+abbrev pub packetIn : Found → Form → List ℕ → List ℕ
+packetIn (Known k) form frame = tenBytes k (valuesAs (Known k) form frame)
+packetIn Route form frame = tenOf routeNumber (valuesAs Route form frame)
+packetIn Unknown form frame = []
 
 -- the lent bytes afterwards, by the checks: the packet in the first ten, and past them what they
 -- held; a refusal leaves all as they were
@@ -89,4 +94,4 @@ readBytesBy (refusedAt why at) packet bytes = bytes
 
 -- the lent bytes after `read`
 unfoldable pub readBytes : ℕ → List ℕ → List ℕ → List ℕ
-readBytes form frame bytes = readBytesBy (readChecks (formAt form) frame) (packetIn (foundIn frame) frame) bytes
+readBytes form frame bytes = readBytesBy (readChecks (formAt form) frame) (packetIn (foundIn frame) (formAt form) frame) bytes

@@ -2,34 +2,33 @@
 // 02, Q-5): a form is a number, a packet is ten bytes, an answer is one number. `capi` exports
 // `read` and `fault`; `frame` has the same for typed packets.
 ghost use mathlib.Core.Path.{_≡_};
-ghost use mathlib.Core.Bool.{true, false};
+ghost use mathlib.Core.Bool.{true, false, cond};
 ghost use mathlib.Core.List.{[], _∷_};
 ghost use Prim.Native.Nat.{_+_, _*_, _/_, _%_, _^_, _<_, _≤_};
-ghost use lib.Bits.{bitAnd, bitXor};
 ghost use lib.Count.{leadingZeros};
-ghost use lib.ListN.{length, getD, drop};
+ghost use lib.ListN.{length, drop};
 ghost use Rattle.lists.specs.Lists.{over};
 ghost use Rattle.frame_fields.specs.Rows.{numberIn};
-ghost use Rattle.frame_form.specs.Forms.{segOf, formValid, formAt};
+ghost use Rattle.frame_form.specs.Forms.{segOf, formValid, formAt, isUplink};
 ghost use Rattle.frame_form.specs.Segments.{wholeSegments};
 ghost use Rattle.frame_form.specs.Frames.{allZero};
-ghost use Rattle.frame_kinds.specs.Kinds.{kindNumber, tenBytes};
+ghost use Rattle.frame_kinds.specs.Kinds.{layoutOf, routeLayout};
 ghost use Rattle.frame_reader.specs.Faults.{zerosFirst};
-ghost use Rattle.frame_reader.specs.Reading.{foundIn, valuesAs, faultAnswer, readAnswer, readBytes};
-ghost use Rattle.frame_reader.specs.Parts.{seenIn, lengthByLv, placesAt, SureZeros, Readable};
+ghost use Rattle.frame_reader.specs.Reading.{faultAnswer, readAnswer, readBytes};
+ghost use Rattle.frame_reader.specs.Parts.{layoutFor, rowBy, lengthByLv, lengthByStrings, headBy, byteFor, spot, spots, placesBy, foundNumber, tailPosition, stringsOf, SureZeros, Named, Headed, lookAnswer, lookBytes};
 use frame_kinds::Found;
 use frame_kinds::Kind;
 
-// What is seen in a header.
-struct Seen {
-    kind: Kind,
-    // the header's length in bytes
+// What is seen of a frame's header.
+struct Head {
+    // its length in bytes
     size: usize,
-    // whether it has LV, and its last four bits: LV, the bytes used in the last segment
-    lv: bool,
-    used: u8,
-    // the bits of its fixed fields that are not as they must be; the header's last byte is lowest
+    // its bytes as one number, the last byte lowest
+    number: u64,
+    // its bits that differ from a fixed field
     wrong: u64,
+    // the packet's length; 0 if LV or a length is wrong
+    len: usize,
 }
 
 // ---- the header
@@ -48,66 +47,7 @@ fn number_in(frame: &[u8], k: usize) -> u64
     h
 }
 
-// A header of `size` bytes whose fixed fields are `mask`, and `want` what they must be.
-fn row(kind: Kind, size: usize, lv: bool, want: u64, mask: u64, frame: &[u8]) -> Seen
-    requires { ⌜ (size ≤ 8) × (size ≤ length (now frame)) ⌝ }
-    ensures { λ r. ⌜ r ≡ record {
-      kind = kind;
-      size = size;
-      lv = lv;
-      used = numberIn size (now (frame .entry)) % 16;
-      wrong = bitAnd (bitXor (numberIn size (now (frame .entry))) want) mask;
-    } ⌝ }
-{
-    let h = number_in(frame, size);
-    Seen {
-        kind: kind,
-        size: size,
-        lv: lv,
-        used: (h % 16) as u8,
-        wrong: (h ^ want) & mask,
-    }
-}
-
-// The header of `frame`, read as kind `kind`: a row for each kind, of the header's length, whether
-// it has LV, its fixed fields and their bits.
-fn seen_as(kind: Kind, frame: &[u8]) -> Seen
-    requires { ⌜ 7 ≤ length (now frame) ⌝ }
-    ensures { λ r. ⌜ r ≡ seenIn (Found.Known kind) (now (frame .entry)) ⌝ }
-{
-    match kind {
-        Kind::Data => row(kind, 3, true, 0x80_0000, 0x80_0000, frame),
-        Kind::ClearRequest => row(
-            kind,
-            7,
-            true,
-            0x58_0000_0000_0000,
-            0xFF_0000_0000_0060,
-            frame,
-        ),
-        Kind::ClearConfirmation => row(kind, 4, false, 0x5C00_0000, 0xFF00_0000, frame),
-    }
-}
-
-// The header of `frame`, whose first byte names the kind.
-fn seen_in(frame: &[u8]) -> Seen
-    requires { ⌜ 7 ≤ length (now frame) ⌝ }
-    ensures { λ r. ⌜ r ≡ seenIn (foundIn (now (frame .entry))) (now (frame .entry)) ⌝ }
-{
-    let found = frame_kinds::named(frame[0]);
-    match found {
-        Found::Known(kind) => seen_as(kind, frame),
-        Found::Unknown => Seen {
-            kind: Kind::Data,
-            size: 1,
-            lv: false,
-            used: 0,
-            wrong: 255,
-        },
-    }
-}
-
-// ---- the packet's length, and the bytes after it
+// ---- the packet's length, and what is seen of a header
 
 // The packet's length by LV `u`, in a frame of `len` bytes; 0 if LV is wrong.
 fn length_by_lv(segment: usize, len: usize, size: usize, u: usize) -> usize
@@ -119,17 +59,117 @@ fn length_by_lv(segment: usize, len: usize, size: usize, u: usize) -> usize
     if right { n } else { 0 }
 }
 
-// The packet's length by LV; 0 if LV is wrong. Each segment size has a call of its own, so that a
-// compiler knows it.
-fn length_in(form: u8, len: usize, size: usize, u: u8) -> usize
-    requires { ⌜ (segOf (formAt form) ≤ len) × (len < 2 ^ 63) × (u < 16) ⌝ }
-    ensures { λ r. ⌜ r ≡ lengthByLv (segOf (formAt form)) len size u ⌝ }
+// The end of the strings that follow a header of `size` bytes: one of `len` bytes, or also a second
+// one, whose length is before it; 0 if one, or the length after the first, runs past the frame.
+fn strings_end(frame: &[u8], size: usize, len: usize, second: bool) -> usize
+    requires { ⌜ (size ≤ 7) × (len < 256) ⌝ }
+    ensures { λ r. ⌜ r ≡ lengthByStrings (now (frame .entry)) size len second ⌝ }
 {
-    if form == 0 {
-        return length_by_lv(7, len, size, u as usize);
+    let first = size + len;
+    if second {
+        if first < frame.len() {
+            let end = first + 1 + frame[first] as usize;
+            return if end <= frame.len() { end } else { 0 };
+        }
+        return 0;
     }
-    length_by_lv(10, len, size, u as usize)
+    if first <= frame.len() { first } else { 0 }
 }
+
+// What is seen of a header of `size` bytes with LV or without: `want` has its fixed fields, `mask`
+// their bits, the header's last byte lowest.
+fn head_by(segment: usize, frame: &[u8], size: usize, lv: bool, want: u64, mask: u64) -> Head
+    requires { ⌜ (size ≤ 7) × (size ≤ length (now frame)) × (segment ≤ length (now frame)) ⌝ }
+    ensures { λ r. ⌜ r ≡ headBy segment (record { size = size; lv = lv; strings = false; want = want; mask = mask }) (now (frame .entry)) ⌝ }
+{
+    let h = number_in(frame, size);
+    let wrong = (h ^ want) & mask;
+    let mut len = size;
+    if lv {
+        len = length_by_lv(segment, frame.len(), size, (h % 16) as usize);
+    }
+    Head {
+        size: size,
+        number: h,
+        wrong: wrong,
+        len: len,
+    }
+}
+
+// The same of a CALL REQUEST or a CALL ACCEPT: the direction decides which of its bits are fixed.
+fn head_of_call(form: u8, segment: usize, frame: &[u8], want: u64, ground: u64, air: u64) -> Head
+    requires { ⌜ (7 ≤ length (now frame)) × (segment ≤ length (now frame)) ⌝ }
+    ensures { λ r. ⌜ r ≡ headBy segment (record { size = 5; lv = true; strings = false; want = want; mask = cond (isUplink (formAt form)) ground air }) (now (frame .entry)) ⌝ }
+{
+    if frame_form::is_uplink_at(form) {
+        head_by(segment, frame, 5, true, want, ground)
+    } else {
+        head_by(segment, frame, 5, true, want, air)
+    }
+}
+
+// The same of each kind: the header's length, whether it has LV, its fixed fields and their bits.
+fn head_of(form: u8, segment: usize, kind: Kind, f: &[u8]) -> Head
+    requires { ⌜ (7 ≤ length (now f)) × (segment ≤ length (now f)) ⌝ }
+    ensures { λ r. ⌜ r ≡ headBy segment (rowBy (layoutOf (formAt form) kind)) (now (f .entry)) ⌝ }
+{
+    let s = segment;
+    match kind {
+        Kind::Data => head_by(s, f, 3, true, 0x80_0000, 0x80_0000),
+        Kind::ClearRequest => head_by(s, f, 7, true, 0x58_0000_0000_0000, 0xFF_0000_0000_0060),
+        Kind::ClearConfirmation => head_by(s, f, 4, false, 0x5C00_0000, 0xFF00_0000),
+        Kind::CallRequest => head_of_call(
+            form,
+            s,
+            f,
+            0x50_0000_0000,
+            0xFF_40C0_0000,
+            0xFF_4000_0000,
+        ),
+        Kind::CallAccept => head_of_call(
+            form,
+            s,
+            f,
+            0x54_0000_0000,
+            0xFF_C000_0060,
+            0xFF_0000_0060,
+        ),
+        Kind::ReceiveReady => head_by(s, f, 3, false, 0x60_0000, 0xFF_C000),
+        Kind::ReceiveNotReady => head_by(s, f, 3, false, 0x64_0000, 0xFF_C000),
+        Kind::Reject => head_by(s, f, 3, false, 0x7D_0000, 0xFF_C000),
+        Kind::Interrupt => head_by(s, f, 3, true, 0x74_0000, 0xFF_0000),
+        Kind::InterruptConfirmation => head_by(s, f, 3, false, 0x7C_0000, 0xFF_C00F),
+        Kind::Reset => head_by(s, f, 5, false, 0x68_0000_0000, 0xFF_C00F_0000),
+        Kind::ResetConfirmation => head_by(s, f, 3, false, 0x6C_0000, 0xFF_C00F),
+    }
+}
+
+// The same of a ROUTE, whose strings tell the packet's length.
+fn head_of_route(frame: &[u8]) -> Head
+    requires { ⌜ 7 ≤ length (now frame) ⌝ }
+    ensures { λ r. ⌜ r ≡ headBy 0 (rowBy routeLayout) (now (frame .entry)) ⌝ }
+{
+    let h = number_in(frame, 2);
+    Head {
+        size: 2,
+        number: h,
+        wrong: (h ^ 0x7000) & 0xFC00,
+        len: strings_end(frame, 2, (h % 256) as usize, h / 512 % 2 == 1),
+    }
+}
+
+// The same of what was found; where nothing was, it is not used.
+fn head_for(form: u8, segment: usize, found: Found, frame: &[u8]) -> Head
+    requires { ⌜ (7 ≤ length (now frame)) × (segment ≤ length (now frame)) ⌝ }
+    ensures { λ r. ⌜ r ≡ headBy segment (rowBy (layoutFor (formAt form) found)) (now (frame .entry)) ⌝ }
+{
+    match found {
+        Found::Known(kind) => head_of(form, segment, kind, frame),
+        _ => head_of_route(frame),
+    }
+}
+
+// ---- the bytes after a packet
 
 // The index of the first byte from `from` on that is not 0; the frame's length if there is none.
 fn zeros_end(frame: &[u8], from: usize) -> usize
@@ -197,169 +237,127 @@ fn put_four(out: &mut [u8], a: u8, b: u8, c: u8, d: u8)
     out[3] = d;
 }
 
-// The values of a DATA packet whose header is the number `h`: M, SN, PS, PR, CH.
-fn put_data(places: &mut [u8], h: u64)
-    requires { ⌜ length (now places) ≡ 9 ⌝ }
-    ensures { λ _. ⌜ now (places .exit) ≡ placesAt Kind.Data h ⌝ }
+// The value of a field of `width` bits, with `shift` bits below it, in a header that is the number
+// `h`; 0 of none. The remainders change nothing in the rows below, and no row owes a bound for
+// them.
+fn field(h: u64, shift: u64, width: u64) -> u8
+    ensures { λ r. ⌜ r ≡ spot h shift width ⌝ }
 {
-    put_five(
-        &mut places[0..5],
-        (h / 4194304 % 2) as u8,
-        (h / 65536 % 64) as u8,
-        (h / 4096 % 16) as u8,
-        (h / 256 % 16) as u8,
-        (h / 16 % 16) as u8,
-    );
-    put_four(&mut places[5..9], 0, 0, 0, 0);
+    let w = width % 9;
+    if w == 0 {
+        return 0;
+    }
+    ((h >> (shift % 64)) % (1u64 << w)) as u8
 }
 
-// The values of a CLEAR REQUEST packet: TC, SN, CH, AM, AG, CC, DC, S, F.
-fn put_request(places: &mut [u8], h: u64)
+// Writes the values of a header that is the number `h` into nine bytes. Each byte of `shifts`, the
+// highest first, is the number of bits below one of the first eight values, and the same byte of
+// `widths` its width, 0 where there is no value. A ninth value, F, has `last` bits and four below
+// it.
+fn spread(places: &mut [u8], h: u64, shifts: u64, widths: u64, last: u64)
     requires { ⌜ length (now places) ≡ 9 ⌝ }
-    ensures { λ _. ⌜ now (places .exit) ≡ placesAt Kind.ClearRequest h ⌝ }
+    ensures { λ _. ⌜ now (places .exit) ≡ spots h shifts widths last ⌝ }
 {
     put_five(
         &mut places[0..5],
-        (h / 70368744177664 % 4) as u8,
-        (h / 1099511627776 % 64) as u8,
-        (h / 68719476736 % 16) as u8,
-        (h / 4294967296 % 16) as u8,
-        (h / 16777216 % 256) as u8,
+        field(h, shifts >> 56, widths >> 56),
+        field(h, (shifts >> 48) % 256, (widths >> 48) % 256),
+        field(h, (shifts >> 40) % 256, (widths >> 40) % 256),
+        field(h, (shifts >> 32) % 256, (widths >> 32) % 256),
+        field(h, (shifts >> 24) % 256, (widths >> 24) % 256),
     );
     put_four(
         &mut places[5..9],
-        (h / 65536 % 256) as u8,
-        (h / 256 % 256) as u8,
-        (h / 128 % 2) as u8,
-        (h / 16 % 2) as u8,
+        field(h, (shifts >> 16) % 256, (widths >> 16) % 256),
+        field(h, (shifts >> 8) % 256, (widths >> 8) % 256),
+        field(h, shifts % 256, widths % 256),
+        field(h, 4, last),
     );
 }
 
-// The values of a CLEAR CONFIRMATION packet: TC, SN, CH, AM, AG.
-fn put_confirmation(places: &mut [u8], h: u64)
-    requires { ⌜ length (now places) ≡ 9 ⌝ }
-    ensures { λ _. ⌜ now (places .exit) ≡ placesAt Kind.ClearConfirmation h ⌝ }
+// The values of a CALL REQUEST: one direction has TC, the other CH.
+fn put_call_request(form: u8, p: &mut [u8], h: u64)
+    requires { ⌜ length (now p) ≡ 9 ⌝ }
+    ensures { λ _. ⌜ now (p .exit) ≡ placesBy (layoutOf (formAt form) Kind.CallRequest) h ⌝ }
 {
-    put_five(
-        &mut places[0..5],
-        (h / 4194304 % 4) as u8,
-        (h / 65536 % 64) as u8,
-        (h / 4096 % 16) as u8,
-        (h / 256 % 16) as u8,
-        (h % 256) as u8,
-    );
-    put_four(&mut places[5..9], 0, 0, 0, 0);
+    if frame_form::is_uplink_at(form) {
+        spread(p, h, 0x1F18_1414_1008_0705, 0x0106_0200_0408_0102, 1)
+    } else {
+        spread(p, h, 0x1F18_1814_1008_0705, 0x0106_0004_0408_0102, 1)
+    }
 }
 
-// The nine bytes after the first, of a packet of kind `kind`. The header is read again, so that a
-// compiler knows its length.
-fn put_places(kind: Kind, frame: &[u8], places: &mut [u8])
-    requires { ⌜ (7 ≤ length (now frame)) × (length (now places) ≡ 9) ⌝ }
-    ensures { λ _. ⌜ tenBytes kind (valuesAs (Found.Known kind) (now (frame .entry))) ≡ kindNumber kind ∷ now (places .exit) ⌝ }
-    ensures nine { λ _. ⌜ length (now (places .exit)) ≡ 9 ⌝ }
+// The values of a CALL ACCEPT: TC on downlink frames only.
+fn put_call_accept(form: u8, p: &mut [u8], h: u64)
+    requires { ⌜ length (now p) ≡ 9 ⌝ }
+    ensures { λ _. ⌜ now (p .exit) ≡ placesBy (layoutOf (formAt form) Kind.CallAccept) h ⌝ }
+{
+    if frame_form::is_uplink_at(form) {
+        spread(p, h, 0x1E18_1410_0807_0400, 0x0006_0404_0801_0100, 0)
+    } else {
+        spread(p, h, 0x1E18_1410_0807_0400, 0x0206_0404_0801_0100, 0)
+    }
+}
+
+// The nine bytes after the first, of a packet of kind `kind` whose header is the number `h`: a row
+// for each kind.
+fn put_places(form: u8, kind: Kind, p: &mut [u8], h: u64)
+    requires { ⌜ length (now p) ≡ 9 ⌝ }
+    ensures { λ _. ⌜ now (p .exit) ≡ placesBy (layoutOf (formAt form) kind) h ⌝ }
 {
     match kind {
-        Kind::Data => put_data(places, number_in(frame, 3)),
-        Kind::ClearRequest => put_request(places, number_in(frame, 7)),
-        Kind::ClearConfirmation => put_confirmation(places, number_in(frame, 4)),
+        Kind::Data => spread(p, h, 0x1610_0C08_0400_0000, 0x0106_0404_0400_0000, 0),
+        Kind::ClearRequest => spread(p, h, 0x2E28_2420_1810_0807, 0x0206_0404_0808_0801, 1),
+        Kind::ClearConfirmation => spread(p, h, 0x1610_0C08_0000_0000, 0x0206_0404_0800_0000, 0),
+        Kind::CallRequest => put_call_request(form, p, h),
+        Kind::CallAccept => put_call_accept(form, p, h),
+        Kind::ReceiveReady => spread(p, h, 0x0804_0000_0000_0000, 0x0604_0400_0000_0000, 0),
+        Kind::ReceiveNotReady => spread(p, h, 0x0804_0000_0000_0000, 0x0604_0400_0000_0000, 0),
+        Kind::Reject => spread(p, h, 0x0804_0000_0000_0000, 0x0604_0400_0000_0000, 0),
+        Kind::Interrupt => spread(p, h, 0x0F0E_0804_0000_0000, 0x0101_0604_0000_0000, 0),
+        Kind::InterruptConfirmation => spread(
+            p,
+            h,
+            0x0804_0000_0000_0000,
+            0x0604_0000_0000_0000,
+            0,
+        ),
+        Kind::Reset => spread(p, h, 0x1814_0800_0000_0000, 0x0604_0808_0000_0000, 0),
+        Kind::ResetConfirmation => spread(p, h, 0x0804_0000_0000_0000, 0x0604_0000_0000_0000, 0),
     }
 }
 
-// Writes the packet of a frame into the first ten bytes of `packet`; the others keep what they
-// held.
-fn put_packet(kind: Kind, frame: &[u8], packet: &mut [u8])
-    requires { ⌜ (7 ≤ length (now frame)) × (10 ≤ length (now packet)) ⌝ }
-    ensures { λ _. ⌜ now (packet .exit) ≡ over (tenBytes kind (valuesAs (Found.Known kind) (now (frame .entry)))) (now (packet .entry)) ⌝ }
+// The same of what was found: a ROUTE has OF, IN and RTL.
+fn put_values(form: u8, found: Found, p: &mut [u8], h: u64)
+    requires { ⌜ length (now p) ≡ 9 ⌝ }
+    ensures { λ _. ⌜ now (p .exit) ≡ placesBy (layoutFor (formAt form) found) h ⌝ }
 {
-    packet[0] = kind.number();
-    put_places(kind, frame, &mut packet[1..10]);
+    match found {
+        Found::Known(kind) => put_places(form, kind, p, h),
+        _ => spread(p, h, 0x0908_0000_0000_0000, 0x0101_0800_0000_0000, 0),
+    }
 }
 
-// ---- reading
-
-// Reads a packet with LV, checked in the order 3, 13, 5.
-fn read_by_lv(form: u8, frame: &[u8], packet: &mut [u8], seen: Seen) -> u64
-    requires { ⌜ Readable form (now frame) seen × (seen .lv ≡ true) ⌝ }
-    ensures { λ r. ⌜ r ≡ readAnswer form (now (frame .entry)) (length (now (packet .entry))) ⌝ }
-    ensures written { λ _. ⌜ now (packet .exit) ≡ readBytes form (now (frame .entry)) (now (packet .entry)) ⌝ }
+// The number of what was found.
+fn number_of(found: Found) -> u8
+    ensures { λ r. ⌜ r ≡ foundNumber found ⌝ }
 {
-    let size = seen.size;
-    let n = length_in(form, frame.len(), size, seen.used);
-    if n == 0 {
-        return 3;
+    match found {
+        Found::Known(kind) => kind.number(),
+        _ => 12,
     }
-    if is_padded(frame, n) {
-        if frame_form::most_at(form) < n {
-            return 13;
-        }
-        if packet.len() < 10 {
-            return 5;
-        }
-        let kind = seen.kind;
-        put_packet(kind, frame, packet);
-        return 256 * (size as u64 + 256 * (n - size) as u64);
-    }
-    3
 }
 
-// Reads a packet without LV, which is its header and has one segment, checked in the order 3, 5. No
-// form is too small for a header.
-fn read_header(form: u8, frame: &[u8], packet: &mut [u8], seen: Seen) -> u64
-    requires { ⌜ Readable form (now frame) seen × (seen .lv ≡ false) ⌝ }
-    ensures { λ r. ⌜ r ≡ readAnswer form (now (frame .entry)) (length (now (packet .entry))) ⌝ }
-    ensures written { λ _. ⌜ now (packet .exit) ≡ readBytes form (now (frame .entry)) (now (packet .entry)) ⌝ }
+// Writes a packet into the first ten bytes of `packet`; the others keep what they held.
+fn put_packet(form: u8, found: Found, packet: &mut [u8], h: u64)
+    requires { ⌜ 10 ≤ length (now packet) ⌝ }
+    ensures { λ _. ⌜ now (packet .exit) ≡ over (foundNumber found ∷ placesBy (layoutFor (formAt form) found) h) (now (packet .entry)) ⌝ }
 {
-    let size = seen.size;
-    if frame_form::segment_at(form) <= frame.len() - size {
-        return 3;
-    }
-    if is_padded(frame, size) {
-        if packet.len() < 10 {
-            return 5;
-        }
-        let kind = seen.kind;
-        put_packet(kind, frame, packet);
-        return 256 * size as u64;
-    }
-    3
+    packet[0] = number_of(found);
+    put_values(form, found, &mut packet[1..10], h);
 }
 
-// Reads a frame of whole segments, checked in the order 3, 13, 5. Packets with LV and without have
-// a call each: most of what a short one needs is known then.
-fn read_whole(form: u8, frame: &[u8], packet: &mut [u8]) -> u64
-    requires { ⌜ (formValid (formAt form) ≡ true) × (wholeSegments (segOf (formAt form)) (length (now frame)) ≡ true) ⌝ }
-    ensures { λ r. ⌜ r ≡ readAnswer form (now (frame .entry)) (length (now (packet .entry))) ⌝ }
-    ensures written { λ _. ⌜ now (packet .exit) ≡ readBytes form (now (frame .entry)) (now (packet .entry)) ⌝ }
-{
-    let seen = seen_in(frame);
-    if seen.wrong != 0 {
-        return 3;
-    }
-    if seen.lv {
-        return read_by_lv(form, frame, packet, seen);
-    }
-    read_header(form, frame, packet, seen)
-}
-
-// Reads a frame, and writes its packet into the first ten bytes of `packet`; the others keep what
-// they held. The answer is the refusal number, plus 256 times the index where the user data starts
-// in the frame, plus 65,536 times its length. Refused with 1, 2, 3, 13, 5 (fewer than ten bytes).
-pub fn read(form: u8, frame: &[u8], packet: &mut [u8]) -> u64
-    ensures { λ r. ⌜ r ≡ readAnswer form (now (frame .entry)) (length (now (packet .entry))) ⌝ }
-    ensures written { λ _. ⌜ now (packet .exit) ≡ readBytes form (now (frame .entry)) (now (packet .entry)) ⌝ }
-{
-    // a part of itself, so that a compiler has it in registers
-    let frame = &frame[..];
-    if frame_form::is_form(form) {
-        if frame_form::is_whole_at(form, frame.len()) {
-            return read_whole(form, frame, packet);
-        }
-        return 2;
-    }
-    1
-}
-
-// ---- where a frame is bad. A frame that reads does not come here
+// ---- where a frame is bad
 
 // The byte of a header of `size` bytes that has the highest of its wrong bits.
 fn first_wrong(wrong: u64, size: usize) -> usize
@@ -370,67 +368,164 @@ fn first_wrong(wrong: u64, size: usize) -> usize
     (zeros + 8 * size - 64) / 8
 }
 
-// The position of what a frame is refused for with 3 or 13, read as a packet with LV; 0 if it
-// reads.
-fn fault_by_lv(form: u8, frame: &[u8], seen: Seen) -> usize
-    requires { ⌜ Readable form (now frame) seen × (seen .lv ≡ true) ⌝ }
-    ensures { λ r. ⌜ r ≡ faultAnswer form (now (frame .entry)) ⌝ }
+// The byte that is wrong if LV or a length is: the header's last one; but if the first string and
+// the length after it are in the frame, that length.
+fn length_byte(frame: &[u8], size: usize, strings: bool, h: u64) -> usize
+    requires { ⌜ (1 ≤ size) × (size ≤ 7) ⌝ }
+    ensures { λ r. ⌜ r ≡ byteFor (now (frame .entry)) size strings h ⌝ }
 {
-    let size = seen.size;
-    let n = length_in(form, frame.len(), size, seen.used);
-    if n == 0 {
-        return size - 1;
+    let first = size + (h % 256) as usize;
+    if strings & ((h / 512 % 2 == 1) & (first < frame.len())) {
+        return first;
     }
+    size - 1
+}
+
+// The same, if nothing is wrong in a packet of `n` bytes: the first byte after it that is not 0 or
+// lies past its segments; then the largest size, if the packet is longer.
+fn tail_fault(form: u8, frame: &[u8], n: usize) -> usize
+    requires { ⌜ (1 ≤ n) × (n ≤ length (now frame)) × (length (now frame) % segOf (formAt form) ≡ 0) ⌝ }
+    ensures { λ r. ⌜ r ≡ tailPosition (formAt form) n (now (frame .entry)) ⌝ }
+{
+    let segment = frame_form::segment_at(form);
+    // the bytes past the packet's segments are whole segments
+    let end = frame.len() - (frame.len() - n) / segment * segment;
     let at = zeros_end(frame, n);
-    if at < frame.len() {
+    if at < end {
         return at;
+    }
+    if end < frame.len() {
+        return end;
     }
     let most = frame_form::most_at(form);
     if most < n { most } else { 0 }
 }
 
-// The same, read as a packet without LV.
-fn fault_header(form: u8, frame: &[u8], seen: Seen) -> usize
-    requires { ⌜ Readable form (now frame) seen × (seen .lv ≡ false) ⌝ }
-    ensures { λ r. ⌜ r ≡ faultAnswer form (now (frame .entry)) ⌝ }
+// Whether strings follow the header of what was found.
+fn has_strings(found: Found) -> bool
+    ensures { λ r. ⌜ r ≡ stringsOf found ⌝ }
 {
-    let segment = frame_form::segment_at(form);
-    let size = seen.size;
-    let at = zeros_end(frame, size);
-    if at < segment {
-        return at;
+    match found {
+        Found::Known(_kind) => false,
+        _ => true,
     }
-    if segment < frame.len() { segment } else { 0 }
 }
 
-// The position of what a frame of whole segments is refused for; 0 if it reads.
-fn fault_whole(form: u8, frame: &[u8]) -> usize
-    requires { ⌜ (formValid (formAt form) ≡ true) × (wholeSegments (segOf (formAt form)) (length (now frame)) ≡ true) ⌝ }
+// The position of what a frame is refused for, whose header was seen; 0 if it reads.
+fn fault_at(form: u8, found: Found, frame: &[u8], head: Head) -> usize
+    requires { ⌜ Headed (formAt form) (now frame) found head ⌝ }
     ensures { λ r. ⌜ r ≡ faultAnswer form (now (frame .entry)) ⌝ }
 {
-    let seen = seen_in(frame);
-    if seen.wrong != 0 {
-        return first_wrong(seen.wrong, seen.size);
+    if head.wrong != 0 {
+        return first_wrong(head.wrong, head.size);
     }
-    if seen.lv {
-        return fault_by_lv(form, frame, seen);
+    if head.len == 0 {
+        return length_byte(frame, head.size, has_strings(found), head.number);
     }
-    fault_header(form, frame, seen)
+    tail_fault(form, frame, head.len)
 }
 
-// Where a frame is bad: the position of what `read` refuses it for. For 2 it is the frame's length,
-// for 3 the first byte with a wrong fixed field, fill, LV or padding or past the segments of a
-// packet without LV, for 13 the form's largest size; 0 for 1, and if the frame reads.
-pub fn fault(form: u8, frame: &[u8]) -> usize
-    ensures { λ r. ⌜ r ≡ faultAnswer form (now (frame .entry)) ⌝ }
+// ---- reading
+
+// Reads a frame whose header was seen, checked in the order 3, 13, 5. What is refused with 3 before
+// the padding is looked at is asked in one test, so that a compiler has one branch.
+fn read_at(
+    form: u8,
+    segment: usize,
+    found: Found,
+    frame: &[u8],
+    head: Head,
+    packet: &mut [u8],
+) -> u64
+    requires { ⌜ Headed (formAt form) (now frame) found head × (segment ≡ segOf (formAt form)) ⌝ }
+    ensures { λ r. ⌜ r ≡ readAnswer form (now (frame .entry)) (length (now (packet .entry))) ⌝ }
+    ensures written { λ _. ⌜ now (packet .exit) ≡ readBytes form (now (frame .entry)) (now (packet .entry)) ⌝ }
 {
-    // a part of itself, as in `read`
+    let size = head.size;
+    let n = head.len;
+    let past = segment <= frame.len() - n;
+    if (head.wrong != 0) | (n == 0) | past {
+        return 3;
+    }
+    if is_padded(frame, n) {
+        if frame_form::most_at(form) < n {
+            return 13;
+        }
+        if packet.len() < 10 {
+            return 5;
+        }
+        put_packet(form, found, packet, head.number);
+        return 256 * (size as u64 + 256 * (n - size) as u64);
+    }
+    3
+}
+
+// Reads a frame whose kind was found; or, if `locate` is set, answers where it is bad, and writes
+// nothing. Both see the header by the same code, which a compiler has once.
+fn look_found(
+    form: u8,
+    segment: usize,
+    found: Found,
+    frame: &[u8],
+    packet: &mut [u8],
+    locate: bool,
+) -> u64
+    requires { ⌜ Named (formAt form) (now frame) found × (segment ≡ segOf (formAt form)) ⌝ }
+    ensures { λ r. ⌜ r ≡ lookAnswer locate form (now (frame .entry)) (length (now (packet .entry))) ⌝ }
+    ensures written { λ _. ⌜ now (packet .exit) ≡ lookBytes locate form (now (frame .entry)) (now (packet .entry)) ⌝ }
+{
+    let head = head_for(form, segment, found, frame);
+    if locate {
+        return fault_at(form, found, frame, head) as u64;
+    }
+    read_at(form, segment, found, frame, head, packet)
+}
+
+// The same of a frame of whole segments.
+fn look_whole(form: u8, segment: usize, frame: &[u8], packet: &mut [u8], locate: bool) -> u64
+    requires { ⌜ (formValid (formAt form) ≡ true) × (wholeSegments (segOf (formAt form)) (length (now frame)) ≡ true) × (segment ≡ segOf (formAt form)) ⌝ }
+    ensures { λ r. ⌜ r ≡ lookAnswer locate form (now (frame .entry)) (length (now (packet .entry))) ⌝ }
+    ensures written { λ _. ⌜ now (packet .exit) ≡ lookBytes locate form (now (frame .entry)) (now (packet .entry)) ⌝ }
+{
+    let found = frame_kinds::named(frame[0]);
+    match found {
+        Found::Unknown => if locate { 0 } else { 3 },
+        _ => look_found(form, segment, found, frame, packet, locate),
+    }
+}
+
+// The same of any frame.
+fn look(form: u8, frame: &[u8], packet: &mut [u8], locate: bool) -> u64
+    ensures { λ r. ⌜ r ≡ lookAnswer locate form (now (frame .entry)) (length (now (packet .entry))) ⌝ }
+    ensures written { λ _. ⌜ now (packet .exit) ≡ lookBytes locate form (now (frame .entry)) (now (packet .entry)) ⌝ }
+{
+    // a part of itself, so that a compiler has it in registers
     let frame = &frame[..];
     if frame_form::is_form(form) {
         if frame_form::is_whole_at(form, frame.len()) {
-            return fault_whole(form, frame);
+            return look_whole(form, frame_form::segment_at(form), frame, packet, locate);
         }
-        return frame.len();
+        return if locate { frame.len() as u64 } else { 2 };
     }
-    0
+    if locate { 0 } else { 1 }
+}
+
+// Reads a frame, and writes its packet into the first ten bytes of `packet`; the others keep what
+// they held. The answer is the refusal number, plus 256 times the index where the user data starts
+// in the frame, plus 65,536 times its length. Refused with 1, 2, 3, 13, 5 (fewer than ten bytes).
+pub fn read(form: u8, frame: &[u8], packet: &mut [u8]) -> u64
+    ensures { λ r. ⌜ r ≡ readAnswer form (now (frame .entry)) (length (now (packet .entry))) ⌝ }
+    ensures written { λ _. ⌜ now (packet .exit) ≡ readBytes form (now (frame .entry)) (now (packet .entry)) ⌝ }
+{
+    look(form, frame, packet, false)
+}
+
+// Where a frame is bad: the position of what `read` refuses it for. For 2 it is the frame's length,
+// for 3 the first byte with a wrong fixed field, fill, LV, length or padding or past the segments
+// of a packet without LV, for 13 the form's largest size; 0 for 1, and if the frame reads.
+pub fn fault(form: u8, frame: &[u8]) -> usize
+    ensures { λ r. ⌜ r ≡ faultAnswer form (now (frame .entry)) ⌝ }
+{
+    let mut none = [0u8; 0];
+    look(form, frame, &mut none, true) as usize
 }

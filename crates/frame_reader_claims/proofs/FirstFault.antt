@@ -35,7 +35,7 @@ wrong-is-refused : (form : Form) (frame : List ℕ) (i : ℕ) → formValid form
 wrong-is-refused form frame i valid whole bad =
     let least = bad-least form frame whole (foundIn frame) i bad in
     let inside = bad-inside form frame whole (foundIn frame) i bad in
-    (faultOf (foundIn frame) (segOf form) frame, three-given form frame valid whole (λ z. omega arith), least)
+    (faultOf (foundIn frame) form frame, three-given form frame valid whole (λ z. omega arith), least)
 
 -- the byte is wrong in the other frame too, which is so refused at it or before it; but a byte
 -- before it that is wrong there is wrong here

@@ -16,14 +16,14 @@ use Rattle.frame_reader_claims.specs.Wrong.{widthOf, WrongField}
 use Rattle.frame_reader_claims.specs.Wrong.WrongField.{here, there}
 
 -- the byte that is named holds a wrong field
-pub first-wrong : (fs : List Field) (bit none : ℕ) (xs : List ℕ) → firstWrong fs bit xs none < none → WrongField fs bit xs (firstWrong fs bit xs none)
-first-wrong [] bit none xs h = absurd (omega arith)
-first-wrong (fixed w v ∷ fs) bit none [] h = absurd (omega arith)
-first-wrong (free w ∷ fs) bit none [] h = absurd (omega arith)
-first-wrong (lv w ∷ fs) bit none [] h = absurd (omega arith)
-first-wrong (free w ∷ fs) bit none (x ∷ xs) h = there (first-wrong fs (bit + w) none xs h)
-first-wrong (lv w ∷ fs) bit none (x ∷ xs) h = there (first-wrong fs (bit + w) none xs h)
-first-wrong (fixed w v ∷ fs) bit none (x ∷ xs) h = go (λ l. first-wrong fs (bit + w) none xs l) (eqb x v) refl h
+pub field-named : (fs : List Field) (bit none : ℕ) (xs : List ℕ) → firstWrong fs bit xs none < none → WrongField fs bit xs (firstWrong fs bit xs none)
+field-named [] bit none xs h = absurd (omega arith)
+field-named (fixed w v ∷ fs) bit none [] h = absurd (omega arith)
+field-named (free w ∷ fs) bit none [] h = absurd (omega arith)
+field-named (lv w ∷ fs) bit none [] h = absurd (omega arith)
+field-named (free w ∷ fs) bit none (x ∷ xs) h = there (field-named fs (bit + w) none xs h)
+field-named (lv w ∷ fs) bit none (x ∷ xs) h = there (field-named fs (bit + w) none xs h)
+field-named (fixed w v ∷ fs) bit none (x ∷ xs) h = go (λ l. field-named fs (bit + w) none xs l) (eqb x v) refl h
   where
     go : (firstWrong fs (bit + w) xs none < none → WrongField fs (bit + w) xs (firstWrong fs (bit + w) xs none))
         → (t : Bool) → eqb x v ≡ t → cond t (firstWrong fs (bit + w) xs none) (bit / 8) < none

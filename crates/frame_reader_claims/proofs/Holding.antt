@@ -1,21 +1,27 @@
--- The byte of LV: a header with LV has it in its last byte, and in no other.
+-- What the laws of wrong bytes ask of a layout, and that the layouts of all kinds have it; and the
+-- byte of LV: a header with LV has it in its last byte, and in no other.
 -- Assumes nothing.
 use mathlib.Core.Path.{_≡_, refl, sym, _∙_, subst}
-use mathlib.Core.Bool.{true, true≢false}
+use mathlib.Core.Bool.{Bool, true, false, true≢false}
 use mathlib.Core.List.{List, [], _∷_}
-use Prim.Native.Nat.{ℕ, _+_, _-_, _/_}
+use Prim.Native.Nat.{ℕ, _+_, _-_, _/_, _≤_}
+use native.Mathlib.Omega.{arith}
 use borrow.Author.Tests.{not-true}
-use Rattle.frame_fields.specs.Layouts.{Field, fixed, free, lv, fields, hasLv}
+use Rattle.frame_fields.specs.Layouts.{Field, fixed, free, lv, Layout, fields, hasLv}
 use Rattle.frame_fields.proofs.Headers.{oneLv}
+use Rattle.frame_fields.proofs.Tags.{Sound}
+use Rattle.frame_form.specs.declared.Form.{Form}
+use Rattle.frame_form.specs.Forms.{isUplink}
 use Rattle.frame_kinds.specs.declared.Kind.{Kind}
-use Rattle.frame_kinds.specs.declared.Kind.the-variants.{Data, ClearRequest, ClearConfirmation}
-use Rattle.frame_kinds.specs.Kinds.{layoutOf}
-use Rattle.frame_kinds.proofs.Table.{sound}
+use Rattle.frame_kinds.specs.declared.Kind.the-variants.{Data, ClearRequest, ClearConfirmation, CallRequest, CallAccept, ReceiveReady, ReceiveNotReady, Reject, Interrupt, InterruptConfirmation, Reset, ResetConfirmation}
+use Rattle.frame_kinds.specs.Kinds.{layoutIn, layoutOf, routeLayout}
+use Rattle.frame_kinds.proofs.Table.{sound, sound-route}
+use Rattle.frame_kinds.proofs.Stored.{header-few}
 use Rattle.frame_reader_claims.specs.Wrong.{widthOf, HoldsLv}
 use Rattle.frame_reader_claims.specs.Wrong.HoldsLv.{here, there}
 
 -- the byte in which the first LV field begins; 0 if there is none
-abbrev lvByte : List Field → ℕ → ℕ
+abbrev pub lvByte : List Field → ℕ → ℕ
 lvByte [] bit = 0
 lvByte (fixed w v ∷ fs) bit = lvByte fs (bit + w)
 lvByte (free w ∷ fs) bit = lvByte fs (bit + w)
@@ -49,16 +55,49 @@ holds-only all bit i o (there {f = f} {fs = fs} h) =
     let s = only-step f fs (holds-has fs (bit + widthOf f) i h) o bit in
     holds-only fs (bit + widthOf f) i (s .0) h ∙ s .1
 
+-- ---- the layouts
+
+-- a layout by which a frame is read: it is sound, its header is short enough, LV is in the header's
+-- last byte, and there is none where strings tell the packet's length
+pub record Laid (l : Layout) : Type 0 where
+  pub sound-is : Sound 15 l
+  pub few : (1 ≤ l .size) × (l .size ≤ 7)
+  pub last-byte : hasLv (fields l) ≡ true → lvByte (fields l) 0 ≡ l .size - 1
+  pub strings-alone : l .strings ≡ true → hasLv (fields l) ≡ false
+
+pub lv-last : (l : Layout) → Laid l → hasLv (fields l) ≡ true → HoldsLv (fields l) 0 (l .size - 1)
+lv-last l laid h = subst (HoldsLv (fields l) 0) (laid .last-byte h) (holds-there (fields l) 0 h)
+
+pub lv-only : (l : Layout) → Laid l → (i : ℕ) → HoldsLv (fields l) 0 i → i ≡ l .size - 1
+lv-only l laid i h = holds-only (fields l) 0 i (laid .sound-is .single) h ∙ laid .last-byte (holds-has (fields l) 0 i h)
+
+-- and the byte of LV is in no header with strings
+pub lv-no-strings : (l : Layout) → Laid l → (i : ℕ) → HoldsLv (fields l) 0 i → l .strings ≡ false
+lv-no-strings l laid i h = go (l .strings) refl
+  where
+    go : (b : Bool) → l .strings ≡ b → b ≡ false
+    go true e = absurd (true≢false (sym (holds-has (fields l) 0 i h) ∙ laid .strings-alone e))
+    go false e = refl
+
 -- by computation, a line a kind
-last-byte : (k : Kind) → hasLv (fields (layoutOf k)) ≡ true → lvByte (fields (layoutOf k)) 0 ≡ layoutOf k .size - 1
-last-byte Data h = refl
-last-byte ClearRequest h = refl
-last-byte ClearConfirmation h = absurd (true≢false (sym h))
+last-in : (up : Bool) (k : Kind) → hasLv (fields (layoutIn up k)) ≡ true → lvByte (fields (layoutIn up k)) 0 ≡ layoutIn up k .size - 1
+last-in up Data h = refl
+last-in up ClearRequest h = refl
+last-in up ClearConfirmation h = absurd (true≢false (sym h))
+last-in true CallRequest h = refl
+last-in false CallRequest h = refl
+last-in true CallAccept h = refl
+last-in false CallAccept h = refl
+last-in up ReceiveReady h = absurd (true≢false (sym h))
+last-in up ReceiveNotReady h = absurd (true≢false (sym h))
+last-in up Reject h = absurd (true≢false (sym h))
+last-in up Interrupt h = refl
+last-in up InterruptConfirmation h = absurd (true≢false (sym h))
+last-in up Reset h = absurd (true≢false (sym h))
+last-in up ResetConfirmation h = absurd (true≢false (sym h))
 
-pub lv-last : (k : Kind) → hasLv (fields (layoutOf k)) ≡ true → HoldsLv (fields (layoutOf k)) 0 (layoutOf k .size - 1)
-lv-last k h = subst (HoldsLv (fields (layoutOf k)) 0) (last-byte k h) (holds-there (fields (layoutOf k)) 0 h)
+pub laid-kind : (form : Form) (k : Kind) → Laid (layoutOf form k)
+laid-kind form k = record { sound-is = sound form k; few = header-few k; last-byte = last-in (isUplink form) k; strings-alone = λ e. absurd (true≢false (sym e)) }
 
-pub lv-only : (k : Kind) (i : ℕ) → HoldsLv (fields (layoutOf k)) 0 i → i ≡ layoutOf k .size - 1
-lv-only k i h =
-    let fs = fields (layoutOf k) in
-    holds-only fs 0 i (sound k .single) h ∙ last-byte k (holds-has fs 0 i h)
+pub laid-route : Laid routeLayout
+laid-route = record { sound-is = sound-route; few = omega arith; last-byte = λ e. absurd (true≢false (sym e)); strings-alone = λ e. refl }

@@ -51,27 +51,27 @@ placed-from true true true true len fault most why at e = inr (inr (inr (sym (ap
 pub record FormatRefusal (form : Form) (frame : List ℕ) (at : ℕ) : Type 0 where
   pub valid : formValid form ≡ true
   pub whole : wholeSegments (segOf form) (length frame) ≡ true
-  pub same : at ≡ faultOf (foundIn frame) (segOf form) frame
-  pub fault : faultOf (foundIn frame) (segOf form) frame ≡ length frame → ⊥
+  pub same : at ≡ faultOf (foundIn frame) form frame
+  pub fault : faultOf (foundIn frame) form frame ≡ length frame → ⊥
 
 pub three-says : (form : Form) (frame : List ℕ) (at : ℕ) → readChecks form frame ≡ refusedAt FormatError at → FormatRefusal form frame at
 unfolding readChecks
 three-says form frame at e =
     let whole = wholeSegments (segOf form) (length frame) in
-    let fault = faultOf (foundIn frame) (segOf form) frame in
-    let short = leb (lengthIn (foundIn frame) (segOf form) frame) (mostOf form) in
+    let fault = faultOf (foundIn frame) form frame in
+    let short = leb (lengthIn (foundIn frame) form frame) (mostOf form) in
     let t = three-from (formValid form) whole (eqb fault (length frame)) short (length frame) fault (mostOf form) at e in
     record { valid = t .0; whole = t .1; same = t .3; fault = eqb-false fault (length frame) (t .2) }
 
 pub three-given : (form : Form) (frame : List ℕ) → formValid form ≡ true → wholeSegments (segOf form) (length frame) ≡ true
-    → (faultOf (foundIn frame) (segOf form) frame ≡ length frame → ⊥) → readChecks form frame ≡ refusedAt FormatError (faultOf (foundIn frame) (segOf form) frame)
+    → (faultOf (foundIn frame) form frame ≡ length frame → ⊥) → readChecks form frame ≡ refusedAt FormatError (faultOf (foundIn frame) form frame)
 unfolding readChecks
-three-given form frame valid whole fault = rw (valid, whole, ne-eqb (faultOf (foundIn frame) (segOf form) frame) (length frame) fault)
+three-given form frame valid whole fault = rw (valid, whole, ne-eqb (faultOf (foundIn frame) form frame) (length frame) fault)
 
 pub placed : (form : Form) (frame : List ℕ) (why : Refusal) (at : ℕ) → readChecks form frame ≡ refusedAt why at → Placed form frame why at
 unfolding readChecks
 placed form frame why at e =
     let whole = wholeSegments (segOf form) (length frame) in
-    let fault = faultOf (foundIn frame) (segOf form) frame in
-    let short = leb (lengthIn (foundIn frame) (segOf form) frame) (mostOf form) in
+    let fault = faultOf (foundIn frame) form frame in
+    let short = leb (lengthIn (foundIn frame) form frame) (mostOf form) in
     placed-from (formValid form) whole (eqb fault (length frame)) short (length frame) fault (mostOf form) why at e

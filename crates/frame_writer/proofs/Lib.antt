@@ -3,3 +3,4 @@ pub mod Writing
 pub mod Verdicts
 pub mod Places
 pub mod Answers
+pub mod Routes

@@ -82,27 +82,42 @@ pub number-done : (v : Verdict) → verdictNumber v ≡ 0 → v ≡ Done
 number-done Done e = refl
 number-done (Refused why) e = absurd (omega (arith, number-range why .0))
 
--- a packet that passes the checks is written in a long form, is short, and has room
-pub record Passed (form : Form) (n out : ℕ) : Type 0 where
+-- what passing the checks means
+pub record Accepted (form : Form) (fits : Bool) (n room : ℕ) : Type 0 where
+  pub good : formValid form ≡ true
+  pub fit : fits ≡ true
+  pub long : isLong form ≡ true
+  pub most : n ≤ mostOf form
+  pub room-enough : frameLength (segOf form) n ≤ room
+
+pub accepted : (form : Form) (fits : Bool) (n room : ℕ) → writeVerdict form fits n room ≡ Done → Accepted form fits n room
+unfolding writeVerdict
+accepted form fits n room e =
+    let r = check (leb (frameLength (segOf form) n) room) OutputTooShort Done in
+    let m = check (leb n (mostOf form)) PacketTooLong r in
+    let l = check (isLong form) ShortForm m in
+    let a = check-done (formValid form) OutOfRange (check fits OutOfRange l) e in
+    let b = check-done fits OutOfRange l (a .1) in
+    let f = check-done (isLong form) ShortForm m (b .1) in
+    let c = check-done (leb n (mostOf form)) PacketTooLong r (f .1) in
+    let d = check-done (leb (frameLength (segOf form) n) room) OutputTooShort Done (c .1) in
+    record { good = a .0; fit = b .0; long = f .0; most = leb-true n (mostOf form) (c .0); room-enough = leb-true (frameLength (segOf form) n) room (d .0) }
+
+pub accepts : (form : Form) (fits : Bool) (n room : ℕ) → Accepted form fits n room → writeVerdict form fits n room ≡ Done
+unfolding writeVerdict
+accepts form fits n room a = rw (a .good, a .fit, a .long, le-leb n (mostOf form) (a .most), le-leb (frameLength (segOf form) n) room (a .room-enough))
+
+-- so a packet that passes fits its fields, has the segments of a long form, is short, and has room
+pub record Passed (form : Form) (fits : Bool) (n out : ℕ) : Type 0 where
+  pub fit : fits ≡ true
   pub long : segOf form ≡ longSegment
   pub few : n ≤ 160
   pub room : frameLength (segOf form) n ≤ out
 
-pub passed : (f : Form) (fits : Bool) (n room : ℕ) → writeVerdict f fits n room ≡ Done → Passed f n room
-unfolding writeVerdict
-passed f fits n room e =
-    let cramped = check (leb (frameLength (segOf f) n) room) OutputTooShort Done in
-    let large = check (leb n (mostOf f)) PacketTooLong cramped in
-    let form = check (isLong f) ShortForm large in
-    let v = check-done (formValid f) OutOfRange (check fits OutOfRange form) e in
-    let l = check-done (isLong f) ShortForm large (check-done fits OutOfRange form (v .1) .1) in
-    let m = check-done (leb n (mostOf f)) PacketTooLong cramped (l .1) in
-    let r = check-done (leb (frameLength (segOf f) n) room) OutputTooShort Done (m .1) in
-    record {
-      long = long-segment f (l .0);
-      few = omega (arith, leb-true n (mostOf f) (m .0), most-range f (v .0) .1);
-      room = leb-true (frameLength (segOf f) n) room (r .0);
-    }
+pub passed : (form : Form) (fits : Bool) (n room : ℕ) → writeVerdict form fits n room ≡ Done → Passed form fits n room
+passed form fits n room e =
+    let a = accepted form fits n room e in
+    record { fit = a .fit; long = long-segment form (a .long); few = omega (arith, a .most, most-range form (a .good) .1); room = a .room-enough }
 
 -- ---- answers
 

@@ -1,28 +1,14 @@
 -- What each part of writing a frame does to the lent bytes.
 -- Assumes nothing.
-use mathlib.Core.Path.{_≡_, sym, ap, _∙_}
-use mathlib.Core.List.{List, [], _∷_, _++_, append-assoc}
-use Prim.Native.Nat.{ℕ, zero, suc, _+_, _-_, _/_, _^_, _<_, _≤_}
+use mathlib.Core.Path.{_≡_, sym, ap, ap₂, _∙_}
+use mathlib.Core.List.{List, [], _∷_, _++_, append-assoc, append-nil}
+use Prim.Native.Nat.{ℕ, zero, suc, _+_, _-_, _≤_}
 use native.Mathlib.Nat.{add-comm}
+use native.Mathlib.Numerals.{add-one}
 use native.Mathlib.Omega.{arith}
-use lib.ListN.{length, take, drop, getD, set, replicate, length-replicate, replicate-append-replicate}
-use lib.Seq.{drop-at, take-all, drop-append-add, take-suc, set-at, paste, length-take-le}
-use lib.Pow.{shr-shr}
-use Rattle.frame_fields.specs.Rows.{total, eights}
+use lib.ListN.{length, set, take, drop, replicate, drop-of-length-le, length-append, length-drop, length-replicate, replicate-append-replicate}
+use lib.Seq.{take-at, drop-at, take-all, take-length, drop-drop, drop-append-add, paste, length-take-le}
 use Rattle.lists.proofs.Copying.{paste-after}
-
--- ---- the header's bytes, the last one first
-
--- a byte is written just before those that are written already
-pub put-before : (o t : List ℕ) (i b : ℕ) → 0 < i → i ≤ length o → set (take i o ++ t) (i - 1) b ≡ take (i - 1) o ++ (b ∷ t)
-put-before o t zero b h k = absurd (omega arith)
-put-before o t (suc j) b h k =
-    let e : suc j - 1 ≡ j = omega arith in
-    rw (e, take-suc o j 0 k, append-assoc (take j o) (getD o j 0 ∷ []) t) (set-at (take j o) (getD o j 0) t b j (length-take-le j o (omega arith)))
-
--- what is left of the number after one byte more
-pub next-digit : (n r : ℕ) → n / 2 ^ total (eights r) / 256 ≡ n / 2 ^ total (eights (suc r))
-next-digit n r = shr-shr n (total (eights r)) 8 ∙ ap (λ (x : ℕ). n / 2 ^ x) (add-comm (total (eights r)) 8)
 
 -- ---- the bytes after the header
 
@@ -55,12 +41,66 @@ cleared o n seg pad few some room =
     ∙ cleared-rest o at k pad (omega arith)
     ∙ ap (λ (x : ℕ). replicate pad 0 ++ drop x o) past
 
--- the header and the user data are written, one after the other, where the padding is written
--- already
-pub three-parts : (h d o c : List ℕ) (k pad : ℕ) → length h ≡ k → drop (k + length d) c ≡ replicate pad 0 ++ drop (k + length d + pad) o
-    → paste (h ++ drop k c) k d (length d) ≡ (h ++ (d ++ replicate pad 0)) ++ drop (k + length d + pad) o
-three-parts h d o c k pad e rest =
-    paste-after h c d k e
-    ∙ ap (λ (l : List ℕ). (h ++ d) ++ l) rest
-    ∙ sym (append-assoc (h ++ d) (replicate pad 0) (drop (k + length d + pad) o))
-    ∙ ap (λ (l : List ℕ). l ++ drop (k + length d + pad) o) (append-assoc h d (replicate pad 0))
+-- k zeros are written over the front of c, where every byte from the n-th on, up to the k-th, is 0
+-- already: nothing changes from there on
+pub zeros-over : (k n pad : ℕ) (c rest : List ℕ) → k ≤ length c → k ≤ n + pad → drop n c ≡ replicate pad 0 ++ rest
+    → drop n (replicate k 0 ++ drop k c) ≡ replicate pad 0 ++ rest
+zeros-over zero n pad c rest h few e = e
+zeros-over (suc k) n pad [] rest h few e = absurd (omega arith)
+zeros-over (suc k) (suc n) pad (b ∷ c) rest h few e = zeros-over k n pad c rest (omega arith) (omega arith) e
+zeros-over (suc k) zero zero (b ∷ c) rest h few e = absurd (omega arith)
+zeros-over (suc k) zero (suc pad) (b ∷ c) rest h few e =
+    ap (λ (l : List ℕ). 0 ∷ l) (zeros-over k 0 pad c rest (omega arith) (omega arith) (ap (drop 1) e))
+
+-- the header h and zeros after it, and then the user data d, are written where the padding is
+-- written already
+pub three-parts : (h d o c : List ℕ) (k pad : ℕ) → length h ≡ k → k ≤ 8 → 8 ≤ length c → 8 ≤ k + length d + pad
+    → drop (k + length d) c ≡ replicate pad 0 ++ drop (k + length d + pad) o
+    → paste ((h ++ replicate (8 - k) 0) ++ drop 8 c) k d (length d) ≡ (h ++ (d ++ replicate pad 0)) ++ drop (k + length d + pad) o
+three-parts h d o c k pad e few wide some rest =
+    let past = drop (k + length d + pad) o in
+    let z : List ℕ = replicate (8 - k) 0 in
+    let all : k + (8 - k) ≡ 8 = omega arith in
+    let after : z ++ drop 8 c ≡ z ++ drop (8 - k) (drop k c) = ap (λ (n : ℕ). z ++ drop n c) (sym all) ∙ ap (λ (l : List ℕ). z ++ l) (sym (drop-drop (8 - k) k c)) in
+    let left : drop (length d) (drop k c) ≡ replicate pad 0 ++ past = drop-drop (length d) k c ∙ rest in
+    let long : length (drop k c) ≡ length c - k = length-drop k c in
+    let kept = zeros-over (8 - k) (length d) pad (drop k c) past (omega (arith, long)) (omega arith) left in
+    let t = z ++ drop 8 c in
+    rw (append-assoc h z (drop 8 c), take-at h t k e, take-length d, ← drop-drop (length d) k (h ++ t), drop-at h t k e, after, kept)
+    (sym (append-assoc (h ++ d) (replicate pad 0) past) ∙ ap (λ (l : List ℕ). l ++ past) (append-assoc h d (replicate pad 0)))
+
+-- ---- two strings
+
+-- bytes written to a lent part: the whole list then holds them from `at` on
+pub written-part : (o s ys : List ℕ) (at k : ℕ) → k ≡ length s → ys ≡ s → take at o ++ (ys ++ drop k (drop at o)) ≡ paste o at s (length s)
+written-part o s ys at k e is =
+    let rest : drop k (drop at o) ≡ drop (at + length s) o = drop-drop k at o ∙ ap (λ (n : ℕ). drop (at + n) o) e in
+    ap₂ (λ (x y : List ℕ). take at o ++ (x ++ y)) is rest
+    ∙ ap (λ (x : List ℕ). take at o ++ (x ++ drop (at + length s) o)) (sym (take-length s))
+    ∙ sym (append-assoc (take at o) (take (length s) s) (drop (at + length s) o))
+
+-- a part after the first byte, and then that byte, are all of the list
+pub counted-parts : (o s : List ℕ) (v : ℕ) → length o ≡ suc (length s) → set (paste o 1 s (length s)) 0 v ≡ v ∷ s
+counted-parts [] s v h = absurd (omega (arith, h))
+counted-parts (x ∷ xs) s v h =
+    let none : drop (length s) xs ≡ [] = drop-of-length-le xs {i = length s} (omega (arith, h)) in
+    ap₂ (λ (a b : List ℕ). v ∷ (a ++ b)) (take-length s) (ap (λ (k : ℕ). drop k (x ∷ xs)) (add-comm 1 (length s)) ∙ ap (λ (k : ℕ). drop k (x ∷ xs)) (add-one (length s)) ∙ none)
+    ∙ ap (λ (l : List ℕ). v ∷ l) (append-nil s)
+
+-- two strings written one after the other are written as one
+pub strings-paste : (o a d : List ℕ) (at : ℕ) → at + (length a + length d) ≤ length o
+    → paste (paste o at a (length a)) (at + length a) d (length d) ≡ paste o at (a ++ d) (length a + length d)
+strings-paste o a d at room =
+    let p = take at o in
+    let q = p ++ a in
+    let j = at + length a in
+    let n = length a + length d in
+    let lp : length p ≡ at = length-take-le at o (omega arith) in
+    let lq : length q ≡ j = length-append p a ∙ omega (arith, lp) in
+    let ld : length (a ++ d) ≡ n = length-append a d in
+    let past : j + length d ≡ at + n = omega arith in
+    ap (λ (l : List ℕ). paste ((p ++ l) ++ drop j o) j d (length d)) (take-length a)
+    ∙ paste-after q o d j lq
+    ∙ ap (λ (k : ℕ). (q ++ d) ++ drop k o) past
+    ∙ ap (λ (l : List ℕ). l ++ drop (at + n) o) (append-assoc p a d)
+    ∙ ap (λ (l : List ℕ). (p ++ l) ++ drop (at + n) o) (sym (take-all n (a ++ d) (omega (arith, ld))))

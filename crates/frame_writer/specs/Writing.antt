@@ -21,22 +21,23 @@ use Rattle.frame_form.specs.Segments.{lastUsed, frameLength}
 use Rattle.frame_form.specs.Frames.{framed, allZero}
 use Rattle.frame_kinds.specs.declared.Kind.{Kind}
 use Rattle.frame_kinds.specs.declared.Found.{Found}
-use Rattle.frame_kinds.specs.declared.Found.the-variants.{Known, Unknown}
-use Rattle.frame_kinds.specs.Kinds.{layoutOf, kindAt, valueCount}
+use Rattle.frame_kinds.specs.declared.Found.the-variants.{Known, Route, Unknown}
+use Rattle.frame_kinds.specs.Kinds.{sizeOf, layoutOf, kindAt, valueCount}
 
 -- the packet's length in bytes: the header and `user` bytes of user data
 abbrev pub packetSize : Kind → ℕ → ℕ
-packetSize k user = layoutOf k .size + user
+packetSize k user = sizeOf k + user
 
--- whether every value fits its field, else refusal 1. A packet without LV has no field for user
--- data: if some is given, that is refusal 1 too, as it could not be read back
-unfoldable pub valuesFit : Kind → List ℕ → ℕ → Bool
-valuesFit k values user = within (fields (layoutOf k)) values && (hasLv (fields (layoutOf k)) || eqb user 0)
+-- whether every value fits its field, else refusal 1; so a value that a direction has no place for
+-- is 0. A packet without LV has no field for user data: if some is given, that is refusal 1 too, as
+-- it could not be read back
+unfoldable pub valuesFit : Form → Kind → List ℕ → ℕ → Bool
+valuesFit form k values user = within (fields (layoutOf form k)) values && (hasLv (fields (layoutOf form k)) || eqb user 0)
 
 -- the bytes of the frame, in any form: the header with LV, which is the number of bytes used in the
 -- last segment, the user data, and zero bytes to whole segments
 unfoldable pub frameBy : Form → Kind → List ℕ → List ℕ → List ℕ
-frameBy form k values user = framed (segOf form) (header (layoutOf k) (lastUsed (segOf form) (packetSize k (length user))) values) user
+frameBy form k values user = framed (segOf form) (header (layoutOf form k) (lastUsed (segOf form) (packetSize k (length user))) values) user
 
 -- the checks of writing a packet of `n` bytes into `room` bytes, in the order 1, 23, 13, 5: the
 -- form is valid, every value `fits` its field, the form is a long one, the packet is no longer than
@@ -66,8 +67,8 @@ answerBy v len = verdictNumber v + 256 * valueBy v len
 -- whether they are the values of a packet of kind k: every value fits its field, the bytes that the
 -- kind has no use for are 0, so that they are read back as they were, and there is no user data
 -- without LV
-unfoldable pub placesFit : Kind → List ℕ → ℕ → Bool
-placesFit k places user = valuesFit k (take (valueCount k) places) user && allZero (drop (valueCount k) places)
+unfoldable pub placesFit : Form → Kind → List ℕ → ℕ → Bool
+placesFit form k places user = valuesFit form k (take (valueCount k) places) user && allZero (drop (valueCount k) places)
 
 -- the nine bytes of a DATA packet with these values
 abbrev pub dataPlaces : ℕ → ℕ → ℕ → ℕ → ℕ → List ℕ
@@ -75,11 +76,13 @@ dataPlaces m sn ps pr ch = m ∷ sn ∷ ps ∷ pr ∷ ch ∷ 0 ∷ 0 ∷ 0 ∷ 0
 
 -- the checks
 abbrev pub placesVerdict : Form → Kind → List ℕ → ℕ → ℕ → Verdict
-placesVerdict form k places user room = writeVerdict form (placesFit k places user) (packetSize k user) room
+placesVerdict form k places user room = writeVerdict form (placesFit form k places user) (packetSize k user) room
 
--- the answer, once the kind is known or not; 1, "an argument exceeds its field", for no kind
+-- the answer, once the kind is known or not; 1, "an argument exceeds its field", for no kind, and
+-- for ROUTE, whose strings are no user data: it has a call of its own
 abbrev pub writeAnswerBy : Found → ℕ → List ℕ → ℕ → ℕ → ℕ
 writeAnswerBy (Known k) form places user room = answerBy (placesVerdict (formAt form) k places user room) (frameLength (segOf (formAt form)) (packetSize k user))
+writeAnswerBy Route form places user room = numberOf OutOfRange
 writeAnswerBy Unknown form places user room = numberOf OutOfRange
 
 -- the answer of `write`; `packet` are its ten bytes, and 1 if they are not ten
@@ -91,6 +94,7 @@ writeAnswer form packet user room =
 abbrev pub writeBytesBy : Found → ℕ → List ℕ → List ℕ → List ℕ → List ℕ
 writeBytesBy (Known k) form places user out =
     outputBy (placesVerdict (formAt form) k places (length user) (length out)) (frameBy (formAt form) k (take (valueCount k) places) user) out
+writeBytesBy Route form places user out = out
 writeBytesBy Unknown form places user out = out
 
 -- the lent output after `write`

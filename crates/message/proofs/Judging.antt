@@ -8,32 +8,82 @@ use Prim.Native.Nat.{ℕ, _+_, _-_, _≤_, _<_}
 use native.Mathlib.Omega.{arith}
 use lib.Dec.{eqb}
 use lib.ListN.{length, take, drop, getD, length-append, length-take, length-drop}
+use lib.Seq.{length-take-le}
 use Rattle.refusal.specs.declared.Refusal.{Refusal}
+use Rattle.refusal.specs.declared.Refusal.the-variants.{FormatError}
 use Rattle.refusal.specs.Positions.{Checked, passed, refusedAt, andThenAt, allAt, from as shifted}
 use Rattle.lists.specs.Frames.{partsOf, sum, isNone}
 use Rattle.frame_form.specs.declared.Form.{Form}
+use Rattle.frame.specs.declared.Data.{Data}
+use Rattle.frame.specs.declared.DataRead.the-variants.{Data as DataIsRead, Other as OtherRead, Refused as DataRefused}
 use Rattle.frame.specs.declared.Packet.{Packet}
 use Rattle.frame.specs.declared.UserData.{UserData}
 use Rattle.frame.specs.declared.Read.{Read}
-use Rattle.frame.specs.declared.Read.the-variants.{Packet as PacketRead, Refused as NotRead}
+use Rattle.frame.specs.declared.Read.the-variants.{Packet as PacketRead, Route as RouteRead, Refused as NotRead}
 use Rattle.frame.specs.Packets.{asData}
-use Rattle.frame.specs.Reading.{readOf, dataIn, partOf}
+use Rattle.frame.specs.Reading.{readOf, dataIn, dataReadBy, dataReadOf, partOf}
 use Rattle.frame.specs.declared.MaybeData.{MaybeData}
-use Rattle.frame.specs.declared.MaybeData.the-variants.{Nothing}
+use Rattle.frame.specs.declared.MaybeData.the-variants.{Nothing, Data as SomeData}
+use Rattle.frame.proofs.Frames.{reads-frame}
 use Rattle.message.specs.declared.joining.Turn.{Turn}
 use Rattle.message.specs.declared.joining.Turn.the-variants.{GoesOn, Refused as NotGoing}
 use Rattle.message.specs.declared.joining.Joined.the-variants.{Bytes, Refused as NotJoined}
-use Rattle.message.specs.Joining.{packetVerdict, turnChecks, userOf, framesChecks, messageIn, joinBy, userIn}
+use Rattle.message.specs.Joining.{dataVerdict, packetVerdict, turnChecks, userOf, framesChecks, messageIn, joinBy, userIn}
 use Rattle.message.specs.JoiningParts.{turnBy, turnOf}
 use Rattle.message.proofs.Positions.{turn-near}
 use Rattle.message.proofs.Places.{from, At, last-is, none-parts, from-here, from-end, at-start, frame-in, at-next, part-is}
 
 -- ---- one frame
 
--- a frame that reads, by the DATA packet that it is
-pub packet-turn : (before : MaybeData) (last : Bool) (p : Packet) (place : UserData) (frame : List ℕ)
-    → turnBy (allAt 0 (packetVerdict before last (asData p))) (asData p) (length (partOf frame place)) ≡ turnOf before last (PacketRead p place) frame
-packet-turn before last p place frame = refl
+module _ (form : Form) (frame : List ℕ) (before : MaybeData) (last : Bool) where
+  -- the turn of a packet, by its DATA and the length of its user data
+  abbrev by-data : MaybeData → ℕ → Turn
+  by-data m n = turnBy (allAt 0 (packetVerdict before last m)) m n
+
+  -- a frame that reads as DATA
+  pub data-turn : (d : Data) (place : UserData) → DataIsRead d place ≡ dataReadOf (readOf form frame)
+      → turnBy (allAt 0 (dataVerdict before last d)) (SomeData d) (place .len) ≡ turnOf before last (readOf form frame) frame
+  data-turn d place e = go (readOf form frame) refl e
+    where
+      packet : (p : Packet) (q : UserData) → readOf form frame ≡ PacketRead p q → (m : MaybeData) → asData p ≡ m → DataIsRead d place ≡ dataReadBy m q
+          → by-data (SomeData d) (place .len) ≡ by-data (asData p) (length (partOf frame q))
+      packet p q er Nothing em h = let z : _≡_ {A = ℕ} 0 1 = cc in absurd (omega arith)
+      packet p q er (SomeData x) em h =
+          let same : SomeData d ≡ asData p = (let dx : d ≡ x = cc in ap SomeData dx) ∙ sym em in
+          let at : place ≡ q = cc in
+          let len : length (partOf frame q) ≡ q .len = length-take-le (q .len) (drop (q .at) frame) (simp length-drop (omega (arith, reads-frame form frame p q er .within-frame))) in
+          ap₂ by-data same (ap (λ (u : UserData). u .len) at ∙ sym len)
+
+      go : (r : Read) → readOf form frame ≡ r → DataIsRead d place ≡ dataReadOf r → by-data (SomeData d) (place .len) ≡ turnOf before last r frame
+      go (PacketRead p q) er h = packet p q er (asData p) refl h
+      go (RouteRead r) er h = let z : _≡_ {A = ℕ} 0 1 = cc in absurd (omega arith)
+      go (NotRead why at) er h = let z : _≡_ {A = ℕ} 0 1 = cc in absurd (omega arith)
+
+  -- one that reads as another packet
+  pub other-turn : OtherRead ≡ dataReadOf (readOf form frame) → NotGoing FormatError 0 ≡ turnOf before last (readOf form frame) frame
+  other-turn e = go (readOf form frame) e
+    where
+      packet : (p : Packet) (q : UserData) (m : MaybeData) → asData p ≡ m → OtherRead ≡ dataReadBy m q → NotGoing FormatError 0 ≡ by-data (asData p) (length (partOf frame q))
+      packet p q Nothing em h = sym (ap (λ (m : MaybeData). by-data m (length (partOf frame q))) em)
+      packet p q (SomeData x) em h = let z : _≡_ {A = ℕ} 0 1 = cc in absurd (omega arith)
+
+      go : (r : Read) → OtherRead ≡ dataReadOf r → NotGoing FormatError 0 ≡ turnOf before last r frame
+      go (PacketRead p q) h = packet p q (asData p) refl h
+      go (RouteRead r) h = refl
+      go (NotRead why at) h = let z : _≡_ {A = ℕ} 0 1 = cc in absurd (omega arith)
+
+  -- one that is refused
+  pub refused-turn : (why : Refusal) (at : ℕ) → DataRefused why at ≡ dataReadOf (readOf form frame) → NotGoing why at ≡ turnOf before last (readOf form frame) frame
+  refused-turn why at e = go (readOf form frame) e
+    where
+      packet : (m : MaybeData) (q : UserData) (x : Turn) → DataRefused why at ≡ dataReadBy m q → NotGoing why at ≡ x
+      packet Nothing q x h = let z : _≡_ {A = ℕ} 0 1 = cc in absurd (omega arith)
+      packet (SomeData y) q x h = let z : _≡_ {A = ℕ} 0 1 = cc in absurd (omega arith)
+
+      go : (r : Read) → DataRefused why at ≡ dataReadOf r → NotGoing why at ≡ turnOf before last r frame
+      go (PacketRead p q) h = packet (asData p) q _ h
+      go (RouteRead r) h = let z : _≡_ {A = ℕ} 0 1 = cc in absurd (omega arith)
+      go (NotRead y a) h = let same : why ≡ y = cc in let place : at ≡ a = cc in ap₂ NotGoing same place
 
 turn-refused : (c : Checked) (next : MaybeData) (user : ℕ) (why : Refusal) (at : ℕ) → turnBy c next user ≡ NotGoing why at → c ≡ refusedAt why at
 turn-refused passed next user why at e = let z : _≡_ {A = ℕ} 0 1 = cc in absurd (omega arith)
@@ -46,6 +96,7 @@ turn-goes (refusedAt y q) next next1 user user1 e = let z : _≡_ {A = ℕ} 0 1 
 -- a frame's user data is no longer than the frame
 user-least : (r : Read) (frame : List ℕ) → length (userOf r frame) ≤ length frame
 user-least (PacketRead p place) frame = simp (length-take, length-drop) (omega arith)
+user-least (RouteRead r) frame = omega arith
 user-least (NotRead why at) frame = omega arith
 
 -- ---- the user data of all frames

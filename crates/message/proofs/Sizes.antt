@@ -119,9 +119,9 @@ pub record InRange (s : Start) : Type 0 where
   pub channel : s .ch < 16
 
 -- they are, if the first frame's packet may be written
-pub in-range : (s : Start) → fits (dataOf s false) 0 ≡ true → InRange s
+pub in-range : (form : Form) (s : Start) → fits form (dataOf s false) 0 ≡ true → InRange s
 unfolding valuesFit
-in-range s e =
+in-range form s e =
     let a = both-true (ltb (s .sn .0) 64 && (ltb (s .ps .0) 16 && (ltb (s .pr .0) 16 && (ltb (s .ch) 16 && true)))) true e in
     let b = both-true (ltb (s .sn .0) 64) (ltb (s .ps .0) 16 && (ltb (s .pr .0) 16 && (ltb (s .ch) 16 && true))) (a .0) in
     let c = both-true (ltb (s .ps .0) 16) (ltb (s .pr .0) 16 && (ltb (s .ch) 16 && true)) (b .1) in
@@ -140,9 +140,9 @@ flag-fits true = refl
 flag-fits false = refl
 
 -- with M, and with user data, as well
-pub fits-all : (s : Start) (more : Bool) (user : ℕ) → InRange s → fits (dataOf s more) user ≡ true
+pub fits-all : (form : Form) (s : Start) (more : Bool) (user : ℕ) → InRange s → fits form (dataOf s more) user ≡ true
 unfolding valuesFit
-fits-all s more user r =
+fits-all form s more user r =
     rw (flag-fits more, lt-ltb (s .sn .0) 64 (r .link), lt-ltb (s .ps .0) 16 (r .packet), lt-ltb (s .pr .0) 16 (r .back), lt-ltb (s .ch) 16 (r .channel))
 
 -- so do those of the next frame

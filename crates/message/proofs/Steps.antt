@@ -17,7 +17,7 @@ use Rattle.frame_form.specs.declared.Form.{Form}
 use Rattle.frame_form.specs.Forms.{formValid, isLong}
 use Rattle.frame_form.specs.Segments.{frameLength}
 use Rattle.frame_form.proofs.Forms.{long-segment}
-use Rattle.frame_kinds.specs.Kinds.{layoutOf}
+use Rattle.frame_kinds.specs.Kinds.{sizeOf}
 use Rattle.frame.specs.declared.Packet.{Packet}
 use Rattle.frame.specs.Packets.{kindOf}
 use Rattle.frame.specs.Writing.{fits, frameOf}
@@ -50,7 +50,7 @@ starts form s k₀ m o₀ l₀ room e =
       fs = [];
       left = k₀;
       text = none-written o₀ l₀;
-      numbers = in-range s (room .fit);
+      numbers = in-range form s (room .fit);
       inside = omega arith;
       count = e ∙ ap (fullFrames (shareOf form)) all;
       places = omega arith;
@@ -63,8 +63,8 @@ ready : (form : Form) (s : Start) (more : Bool) (q : Packet) (n : ℕ) (u : List
 ready form s more q n u p room i places e en good long numbers share inside place = record {
   good = good;
   long = long;
-  fit = ap (λ (x : Packet). fits x n) e ∙ fits-all s more n numbers;
-  header = ap (λ (x : Packet). layoutOf (kindOf x) .size) e;
+  fit = ap (λ (x : Packet). fits form x n) e ∙ fits-all form s more n numbers;
+  header = ap (λ (x : Packet). sizeOf (kindOf x)) e;
   share = share;
   inside = subst (λ (x : ℕ). p + x ≤ room) (frame-length form (dataOf s more) u ∙ ap₂ (λ (seg x : ℕ). frameLength seg (3 + x)) (long-segment form long) en) inside;
   place = place;

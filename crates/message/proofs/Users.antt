@@ -2,7 +2,7 @@
 -- checks that the frame passed leave no other place.
 -- Assumes nothing.
 use mathlib.Core.Path.{_≡_, refl, sym, ap, _∙_, subst}
-use mathlib.Core.Bool.{Bool, true}
+use mathlib.Core.Bool.{Bool, true, true≢false}
 use mathlib.Core.List.{List, [], _∷_}
 use Prim.Native.Nat.{ℕ, _+_, _-_, _%_, _≤_}
 use native.Mathlib.Nat.{div-one}
@@ -21,15 +21,15 @@ use Rattle.frame_form.proofs.Segments.{whole-some, whole-none-over}
 use Rattle.frame_kinds.specs.declared.Kind.{Kind}
 use Rattle.frame_kinds.specs.declared.Kind.the-variants.{Data as DataKind}
 use Rattle.frame_kinds.specs.declared.Found.{Found}
-use Rattle.frame_kinds.specs.declared.Found.the-variants.{Known, Unknown}
-use Rattle.frame_kinds.specs.Kinds.{dataLayout}
+use Rattle.frame_kinds.specs.declared.Found.the-variants.{Known, Route, Unknown}
+use Rattle.frame_kinds.specs.Kinds.{layoutOf}
 use Rattle.frame_kinds.proofs.Table.{sound}
 use Rattle.frame_reader.specs.Faults.{packetLength, firstFault}
 use Rattle.frame_reader.specs.Reading.{foundIn, faultOf, valuesAs, readChecks}
 use Rattle.frame.specs.declared.MaybeData.{MaybeData}
 use Rattle.frame.specs.declared.MaybeData.the-variants.{Nothing, Data as SomeData}
 use Rattle.frame.specs.declared.Read.{Read}
-use Rattle.frame.specs.declared.Read.the-variants.{Packet as PacketRead, Refused as NotRead}
+use Rattle.frame.specs.declared.Read.the-variants.{Packet as PacketRead, Route as RouteRead, Refused as NotRead}
 use Rattle.frame.specs.Packets.{packetOf, asData}
 use Rattle.frame.specs.Reading.{readBy, readOf, dataIn}
 use Rattle.frame.proofs.KindLaws.{data-kind}
@@ -46,6 +46,7 @@ some-passed before last (SomeData d) e = refl
 
 turn-data : (before : MaybeData) (last : Bool) (r : Read) → turnChecks before last r ≡ passed → isData r ≡ true
 turn-data before last (PacketRead p place) e = some-passed before last (asData p) (all-passed 0 (packetVerdict before last (asData p)) e)
+turn-data before last (RouteRead r) e = let z : _≡_ {A = ℕ} 0 1 = cc in absurd (omega arith)
 turn-data before last (NotRead why at) e = let z : _≡_ {A = ℕ} 0 1 = cc in absurd (omega arith)
 
 pub all-data : (form : Form) (before : MaybeData) (start : ℕ) (fs : List (List ℕ)) → framesChecks form before start fs ≡ passed → allData form fs ≡ true
@@ -72,9 +73,9 @@ third-last (a ∷ b ∷ []) = omega arith
 third-last (a ∷ b ∷ c ∷ frame) = omega arith
 
 -- so a DATA packet's length is this
-long-is : (seg : ℕ) (frame : List ℕ) → packetLength seg dataLayout frame ≡ length frame - seg + getD frame 2 0 % 16
+long-is : (form : Form) (seg : ℕ) (frame : List ℕ) → packetLength seg (layoutOf form DataKind) frame ≡ length frame - seg + getD frame 2 0 % 16
 unfolding packetLength
-long-is seg frame = ap (λ (x : ℕ). length frame - seg + x) (ap (λ (x : ℕ). x % 16) (div-one (numberIn 3 frame)) ∙ third-last frame)
+long-is form seg frame = ap (λ (x : ℕ). length frame - seg + x) (ap (λ (x : ℕ). x % 16) (div-one (numberIn 3 frame)) ∙ third-last frame)
 
 -- ---- the place
 
@@ -87,15 +88,15 @@ pub record DataFrame (form : Form) (frame : List ℕ) (r : Read) : Type 0 where
 
 -- a frame of kind DATA passed the checks, and its user data comes after the header
 data-found : (form : Form) (frame : List ℕ) → readChecks form frame ≡ passed → foundIn frame ≡ Known DataKind
-    → DataFrame form frame (readBy passed (Known DataKind) (segOf form) frame)
+    → DataFrame form frame (readBy passed (Known DataKind) form frame)
 data-found form frame ec ef =
     let seg = segOf form in
     let q = checks-passed form frame ec in
-    let none : firstFault seg dataLayout frame ≡ length frame = sym (ap (λ (f : Found). faultOf f seg frame) ef) ∙ q .none in
+    let none : firstFault seg (layoutOf form DataKind) frame ≡ length frame = sym (ap (λ (f : Found). faultOf f form frame) ef) ∙ q .none in
     let some = whole-some seg (length frame) (segment-some form) (q .whole) in
     let small : 3 ≤ seg = omega (arith, segment-seven form) in
-    let n = inside seg dataLayout (sound DataKind) (segment-some form) small frame some (whole-none-over seg (length frame) (q .whole)) none in
-    let long = long-is seg frame in
+    let n = inside seg (layoutOf form DataKind) (sound form DataKind) (segment-some form) small frame some (whole-none-over seg (length frame) (q .whole)) (λ e. absurd (true≢false (sym e))) none in
+    let long = long-is form seg frame in
     record {
       segment = some;
       header = omega (arith, n .0, long);
@@ -109,12 +110,13 @@ some-kind k vs Nothing e some = let z : _≡_ {A = ℕ} 0 1 = cc in absurd (omeg
 some-kind k vs (SomeData d) e some = data-kind k vs d e
 
 by-found : (form : Form) (frame : List ℕ) (c : Checked) (f : Found) → readChecks form frame ≡ c → foundIn frame ≡ f
-    → isData (readBy c f (segOf form) frame) ≡ true → DataFrame form frame (readBy c f (segOf form) frame)
+    → isData (readBy c f form frame) ≡ true → DataFrame form frame (readBy c f form frame)
 by-found form frame (refusedAt why at) f ec ef e = let z : _≡_ {A = ℕ} 0 1 = cc in absurd (omega arith)
+by-found form frame passed Route ec ef e = let z : _≡_ {A = ℕ} 0 1 = cc in absurd (omega arith)
 by-found form frame passed Unknown ec ef e = let z : _≡_ {A = ℕ} 0 1 = cc in absurd (omega arith)
 by-found form frame passed (Known k) ec ef e =
-    let is = some-kind k (valuesAs (Known k) frame) _ refl e in
-    subst (λ (j : Kind). foundIn frame ≡ Known j → DataFrame form frame (readBy passed (Known j) (segOf form) frame)) (sym is) (data-found form frame ec) ef
+    let is = some-kind k (valuesAs (Known k) form frame) _ refl e in
+    subst (λ (j : Kind). foundIn frame ≡ Known j → DataFrame form frame (readBy passed (Known j) form frame)) (sym is) (data-found form frame ec) ef
 
 pub data-frame : (form : Form) (frame : List ℕ) → isData (readOf form frame) ≡ true → DataFrame form frame (readOf form frame)
 unfolding readOf

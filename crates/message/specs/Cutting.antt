@@ -75,7 +75,7 @@ framesOf form s message = framesFrom form (fullFrames (shareOf form) (length mes
 unfoldable pub cutVerdict : Form → Start → List ℕ → ℕ → ℕ → Verdict
 cutVerdict form s message room places =
     check (formValid form) OutOfRange
-    (check (fits (dataOf s false) 0) OutOfRange
+    (check (fits form (dataOf s false) 0) OutOfRange
     (check (isLong form) ShortForm
     (check (leb (length message) 4096) MessageTooLong
     (check (leb (length (bytesIn (framesOf form s message))) room) OutputTooShort

@@ -22,7 +22,7 @@ use Rattle.frame.specs.declared.Data.{Data}
 use Rattle.frame.specs.declared.MaybeData.{MaybeData}
 use Rattle.frame.specs.declared.MaybeData.the-variants.{Nothing, Data as SomeData}
 use Rattle.frame.specs.declared.Read.{Read}
-use Rattle.frame.specs.declared.Read.the-variants.{Packet as PacketRead, Refused as NotRead}
+use Rattle.frame.specs.declared.Read.the-variants.{Packet as PacketRead, Route as RouteRead, Refused as NotRead}
 use Rattle.frame.specs.Packets.{asData}
 use Rattle.frame.specs.Reading.{readOf, dataIn, partOf}
 use Rattle.message.specs.declared.joining.Joined.{Joined}
@@ -69,14 +69,17 @@ packetVerdict before last (SomeData d) = dataVerdict before last d
 
 -- The checks of a frame, by what reading it answered: "in each the reading order 2, 3, 13" (a
 -- refusal of the reader stays, at its position), then those of its packet, at the frame's first
--- byte. The position is counted from there.
+-- byte; a ROUTE is not DATA. The position is counted from there.
 abbrev pub turnChecks : MaybeData → Bool → Read → Checked
 turnChecks before last (PacketRead p place) = allAt 0 (packetVerdict before last (asData p))
+turnChecks before last (RouteRead r) = allAt 0 (packetVerdict before last Nothing)
 turnChecks before last (NotRead why at) = refusedAt why at
 
--- the user data of a frame, by what reading it answered; none if it was refused
+-- the user data of a frame, by what reading it answered; none of a ROUTE, which has none, and if it
+-- was refused
 abbrev pub userOf : Read → List ℕ → List ℕ
 userOf (PacketRead p place) frame = partOf frame place
+userOf (RouteRead r) frame = []
 userOf (NotRead why at) frame = []
 
 -- the user data that is read from a frame

@@ -1,6 +1,6 @@
 // Cuts a message into DATA frames (document 01, "Cutting and joining").
 ghost use mathlib.Core.Path.{_≡_};
-ghost use mathlib.Core.Bool.{true, false, cond};
+ghost use mathlib.Core.Bool.{true, cond};
 ghost use Prim.Native.Nat.{_+_, _*_, _≤_};
 ghost use lib.ListN.{length, set};
 ghost use Rattle.refusal.specs.Numbers.{verdictNumber, valueBy};
@@ -8,9 +8,9 @@ ghost use Rattle.lists.specs.Frames.{bytesIn, lengthsOf};
 ghost use Rattle.lists.specs.Lists.{over};
 ghost use Rattle.frame_form.specs.Forms.{longSegment, formValid, isLong};
 ghost use Rattle.frame_form.specs.Segments.{frameLength};
-ghost use Rattle.frame.specs.Writing.{fits, frameOf};
+ghost use Rattle.frame.specs.Writing.{frameOf};
 ghost use Rattle.message.specs.Cutting.{cutNumber, cutCount, cutBytes, shareOf, fullFrames, dataOf, nextStart, framesOf, cutVerdict, cutBy, cutOf, cutOutput, cutLengths};
-ghost use Rattle.message.specs.CuttingParts.{splice, roomFor, Room, Ready};
+ghost use Rattle.message.specs.CuttingParts.{TellsFit, splice, roomFor, Room, Ready};
 use frame::Data;
 use frame::Packet;
 use frame_form::Form;
@@ -52,7 +52,7 @@ impl Cut {
 impl Start {
     // Whether SN, PS, PR and CH each fit their field.
     fn fits(self) -> bool
-        ensures { λ r. ⌜ r ≡ fits (dataOf self false) 0 ⌝ }
+        ensures { λ r. ⌜ TellsFit self r ⌝ }
     {
         (self.sn.0 < 64) & (self.ps.0 < 16) & (self.pr.0 < 16) & (self.ch < 16)
     }

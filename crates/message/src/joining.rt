@@ -9,14 +9,12 @@ ghost use Rattle.refusal.specs.Numbers.{valueBy};
 ghost use Rattle.refusal.specs.Positions.{checkedNumber, positionOf, verdictOf};
 ghost use Rattle.lists.specs.Lists.{over};
 ghost use Rattle.lists.specs.Frames.{partsOf, sum};
-ghost use Rattle.frame.specs.Packets.{asData};
 ghost use Rattle.frame.specs.Reading.{readOf};
-ghost use Rattle.message.specs.Joining.{userIn, joinedNumber, joinedBytes, joinedPosition, follows, dataVerdict, packetVerdict, framesChecks, messageIn, joinChecks, joinBy, joinOf, joinOutput};
+ghost use Rattle.message.specs.Joining.{userIn, joinedNumber, joinedBytes, joinedPosition, follows, dataVerdict, framesChecks, messageIn, joinChecks, joinBy, joinOf, joinOutput};
 ghost use Rattle.message.specs.JoiningParts.{turnOf, sized, isData, Joinable};
 use frame::Data;
+use frame::DataRead;
 use frame::MaybeData;
-use frame::Packet;
-use frame::Read;
 use frame_form::Form;
 use refusal::Refusal;
 use refusal::Verdict;
@@ -114,32 +112,21 @@ fn check_data(before: MaybeData, last: bool, d: Data) -> Verdict
     }
 }
 
-// Checks a packet: 3 if it is not DATA, else as `check_data` does.
-fn check_packet(before: MaybeData, last: bool, packet: Packet) -> Verdict
-    ensures { λ r. ⌜ r ≡ packetVerdict before last (asData packet) ⌝ }
-{
-    let found = packet.data();
-    match found {
-        MaybeData::Data(d) => check_data(before, last, d),
-        MaybeData::Nothing => Verdict::Refused(Refusal::FormatError),
-    }
-}
-
 // Reads and checks one frame; `last` is whether it is the last of the message.
 fn judge_frame(form: Form, before: MaybeData, last: bool, frame: &[u8]) -> Turn
     ensures { λ r. ⌜ r ≡ turnOf before last (readOf form (now (frame .entry))) (now (frame .entry)) ⌝ }
 {
-    let read = frame::read_frame(form, frame);
+    let read = frame::read_data(form, frame);
     match read {
-        Read::Packet(packet, place) => {
-            let verdict = check_packet(before, last, packet);
-            let user = frame::user_data(frame, place);
+        DataRead::Data(d, place) => {
+            let verdict = check_data(before, last, d);
             match verdict {
-                Verdict::Done => Turn::GoesOn(packet.data(), user.len()),
+                Verdict::Done => Turn::GoesOn(MaybeData::Data(d), place.len),
                 Verdict::Refused(why) => Turn::Refused(why, 0),
             }
         }
-        Read::Refused(why, at) => Turn::Refused(why, at),
+        DataRead::Other => Turn::Refused(Refusal::FormatError, 0),
+        DataRead::Refused(why, at) => Turn::Refused(why, at),
     }
 }
 

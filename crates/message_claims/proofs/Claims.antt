@@ -49,7 +49,7 @@ some-lengths [] k e = absurd (omega arith)
 some-lengths (f ∷ fs) k e = refl
 
 -- the frames of a message are joined to it
-frames-join : (form : Form) (s : Start) (message : List ℕ) (room : ℕ) → formValid form ≡ true → fits (dataOf s false) 0 ≡ true → length message ≤ 4096 → length message ≤ room
+frames-join : (form : Form) (s : Start) (message : List ℕ) (room : ℕ) → formValid form ≡ true → fits form (dataOf s false) 0 ≡ true → length message ≤ 4096 → length message ≤ room
     → JoinDone form (lengthsOf (framesOf form s message)) (bytesIn (framesOf form s message)) room
     × (messageIn form (partsOf (lengthsOf (framesOf form s message)) (bytesIn (framesOf form s message))) ≡ message)
 unfolding framesOf
@@ -71,7 +71,7 @@ frames-join form s message room good fit small enough =
       msg,
     )
 
-pub frames-are-joined : (form : Form) (s : Start) (message room : List ℕ) → formValid form ≡ true → fits (dataOf s false) 0 ≡ true → length message ≤ 4096
+pub frames-are-joined : (form : Form) (s : Start) (message room : List ℕ) → formValid form ≡ true → fits form (dataOf s false) 0 ≡ true → length message ≤ 4096
     → length message ≤ length room → FramesAreJoined form s message room
 unfolding joinOf joinOutput
 frames-are-joined form s message room good fit small enough =
@@ -107,7 +107,7 @@ joined-are-frames form l ls bytes room n d place are e reads as-cut =
 
 -- ---- cut, then joined
 
-is-cut : (form : Form) (s : Start) (message out lengths : List ℕ) → formValid form ≡ true → isLong form ≡ true → fits (dataOf s false) 0 ≡ true → length message ≤ 4096
+is-cut : (form : Form) (s : Start) (message out lengths : List ℕ) → formValid form ≡ true → isLong form ≡ true → fits form (dataOf s false) 0 ≡ true → length message ≤ 4096
     → length (bytesIn (framesOf form s message)) ≤ length out → length (framesOf form s message) ≤ length lengths → IsCut form s message out lengths
 unfolding cutOf cutOutput cutLengths
 is-cut form s message out lengths good long fit small room places =
@@ -152,7 +152,7 @@ joined-is-cut form l ls bytes room n d place out places long are e reads as-cut 
     let B : bytesIn (framesOf form s message) ≡ bytes = ap bytesIn frames ∙ bytes-back lengths bytes (j .sums) in
     let L : lengthsOf (framesOf form s message) ≡ lengths = ap lengthsOf frames ∙ lengths-back lengths bytes (j .sums) in
     let N : length (framesOf form s message) ≡ length lengths = ap (λ (x : List (List ℕ)). length x) frames ∙ count-parts lengths bytes in
-    let fit : fits (dataOf s false) 0 ≡ true = fits-start d (place .len) (reads-frame form (take l bytes) (DataPacket d) place reads .fit) in
+    let fit : fits form (dataOf s false) 0 ≡ true = fits-start form d (place .len) (reads-frame form (take l bytes) (DataPacket d) place reads .fit) in
     let cut = is-cut form s message out places (j .good) long fit (j .small) (subst (λ (x : List ℕ). length x ≤ length out) (sym B) room-out) (omega (arith, N, room-places)) in
     record {
       answer = cut .answer ∙ ap₂ Frames N (ap length B);

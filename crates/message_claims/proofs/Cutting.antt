@@ -45,9 +45,9 @@ goes-follows b s more first = refl
 goes-follows b s more (after {s = t}) = rw (eq-eqb (next 64 (t .sn .0)) (next 64 (t .sn .0)) refl, eq-eqb (next 16 (t .ps .0)) (next 16 (t .ps .0)) refl) (eq-eqb (t .ch) (t .ch) refl)
 
 -- the frame of a share reads as its packet
-module _ (form : Form) (good : formValid form ≡ true) (s : Start) (fit : fits (dataOf s false) 0 ≡ true) (more : Bool) (user : List ℕ) (small : length user ≤ shareOf form) where
+module _ (form : Form) (good : formValid form ≡ true) (s : Start) (fit : fits form (dataOf s false) 0 ≡ true) (more : Bool) (user : List ℕ) (small : length user ≤ shareOf form) where
   pub share-reads : readOf form (frameOf form (dataOf s more) user) ≡ PacketRead (dataOf s more) (placeOf (dataOf s more) (length user))
-  share-reads = frame-reads form (dataOf s more) user good (start-fits s more (length user) fit) (omega (arith, small, share-range form good .2))
+  share-reads = frame-reads form (dataOf s more) user good (start-fits form s more (length user) fit) (omega (arith, small, share-range form good .2))
 
   share-user : userOf (readOf form (frameOf form (dataOf s more) user)) (frameOf form (dataOf s more) user) ≡ user
   share-user = ap (λ (r : Read). userOf r (frameOf form (dataOf s more) user)) share-reads ∙ frame-user form (dataOf s more) user
@@ -73,7 +73,7 @@ share-left share k message h = omega (arith, h, length-drop share message, suc-m
 pub one-share : (share : ℕ) (message : List ℕ) → length message ≤ 1 * share → length message ≤ share
 one-share share message h = omega (arith, h)
 
-pub frames-run : (form : Form) → formValid form ≡ true → (k : ℕ) (s : Start) (message : List ℕ) (b : MaybeData) (start : ℕ) → fits (dataOf s false) 0 ≡ true → Goes b s
+pub frames-run : (form : Form) → formValid form ≡ true → (k : ℕ) (s : Start) (message : List ℕ) (b : MaybeData) (start : ℕ) → fits form (dataOf s false) 0 ≡ true → Goes b s
     → length message ≤ suc k * shareOf form → framesChecks form b start (framesFrom form k s message) ≡ passed
 unfolding framesFrom framesChecks
 frames-run form good zero s message b start fit goes small =
@@ -86,9 +86,9 @@ frames-run form good (suc k) s message b start fit goes small =
     ap₂ (λ (n : Bool) (r : Read). andThenAt (from start (turnChecks b n r)) (framesChecks form (dataIn r) (start + length f) rest)) (more-frames form k (nextStart s) (drop share message))
     (share-reads form good s fit true (take share message) (share-taken share message))
     ∙ ap (λ (v : Verdict). andThenAt (from start (allAt 0 v)) (framesChecks form (SomeData (dataRecord s true)) (start + length f) rest)) (turn-done b s true goes)
-    ∙ frames-run form good k (nextStart s) (drop share message) (SomeData (dataRecord s true)) (start + length f) (next-fits s fit) after (share-left share k message small)
+    ∙ frames-run form good k (nextStart s) (drop share message) (SomeData (dataRecord s true)) (start + length f) (next-fits form s fit) after (share-left share k message small)
 
-pub frames-message : (form : Form) → formValid form ≡ true → (k : ℕ) (s : Start) (message : List ℕ) → fits (dataOf s false) 0 ≡ true
+pub frames-message : (form : Form) → formValid form ≡ true → (k : ℕ) (s : Start) (message : List ℕ) → fits form (dataOf s false) 0 ≡ true
     → length message ≤ suc k * shareOf form → messageIn form (framesFrom form k s message) ≡ message
 unfolding framesFrom messageIn
 frames-message form good zero s message fit small =
@@ -97,5 +97,5 @@ frames-message form good zero s message fit small =
 frames-message form good (suc k) s message fit small =
     let share = shareOf form in
     ap₂ (λ (x y : List ℕ). x ++ y) (share-user form good s fit true (take share message) (share-taken share message))
-    (frames-message form good k (nextStart s) (drop share message) (next-fits s fit) (share-left share k message small))
+    (frames-message form good k (nextStart s) (drop share message) (next-fits form s fit) (share-left share k message small))
     ∙ take-append-drop share message

@@ -11,7 +11,7 @@ use lib.Dec.{eqb}
 use lib.ListN.{length, length-append}
 use borrow.Author.Tests.{eqb-true}
 use Rattle.refusal.specs.declared.Refusal.{Refusal}
-use Rattle.refusal.specs.declared.Refusal.the-variants.{OutOfRange, Malformed}
+use Rattle.refusal.specs.declared.Refusal.the-variants.{OutOfRange, Malformed, FormatError}
 use Rattle.refusal.specs.declared.Verdict.{Verdict}
 use Rattle.refusal.specs.declared.Verdict.the-variants.{Done, Refused}
 use Rattle.refusal.specs.Positions.{Checked, passed, refusedAt, checkAt, andThenAt, allAt, from, positionOf}
@@ -23,8 +23,9 @@ use Rattle.frame.specs.declared.MaybeData.{MaybeData}
 use Rattle.frame.specs.declared.MaybeData.the-variants.{Nothing}
 use Rattle.frame.specs.declared.Packet.{Packet}
 use Rattle.frame.specs.declared.UserData.{UserData}
+use Rattle.frame.specs.declared.Route.{Route}
 use Rattle.frame.specs.declared.Read.{Read}
-use Rattle.frame.specs.declared.Read.the-variants.{Packet as PacketRead, Refused as NotRead}
+use Rattle.frame.specs.declared.Read.the-variants.{Packet as PacketRead, Route as RouteRead, Refused as NotRead}
 use Rattle.frame.specs.Packets.{asData}
 use Rattle.frame.specs.Reading.{readOf, dataIn}
 use Rattle.message.specs.declared.joining.Joined.the-variants.{Refused as NotJoined}
@@ -107,7 +108,17 @@ bad-frame form run f fs why at (PacketRead p user) er e =
       after = fs;
       split = refl;
       before-pass = AllPass.none;
-      place = inr (p, user, er, refused .0, refused .1);
+      place = inr (inl (p, user, er, refused .0, refused .1));
+    }
+bad-frame form run f fs why at (RouteRead route) er e =
+    let same = refusal-same why FormatError at 0 e in
+    record {
+      before = [];
+      bad = f;
+      after = fs;
+      split = refl;
+      before-pass = AllPass.none;
+      place = inr (inr (route, er, sym (same .0), sym (same .1)));
     }
 bad-frame form run f fs why at (NotRead y q) er e =
     let same = refusal-same why y at q e in
@@ -142,11 +153,14 @@ good-before form run f fs why at good b = record {
     packet-refused p = packetVerdict (runAfter form (dataIn (readOf form f)) (b .before)) (isNone (b .after)) (asData p) ≡ Refused why
 
     go : ((q : ℕ) × (readOf form (b .bad) ≡ NotRead why q) × (at ≡ length (bytesIn (b .before)) + q))
-        ⊎ ((p : Packet) × (user : UserData) × (readOf form (b .bad) ≡ PacketRead p user) × packet-refused p × (at ≡ length (bytesIn (b .before))))
+        ⊎ (((p : Packet) × (user : UserData) × (readOf form (b .bad) ≡ PacketRead p user) × packet-refused p × (at ≡ length (bytesIn (b .before))))
+        ⊎ ((route : Route) × (readOf form (b .bad) ≡ RouteRead route) × (why ≡ FormatError) × (at ≡ length (bytesIn (b .before)))))
         → ((q : ℕ) × (readOf form (b .bad) ≡ NotRead why q) × (length f + at ≡ length (bytesIn (f ∷ b .before)) + q))
-        ⊎ ((p : Packet) × (user : UserData) × (readOf form (b .bad) ≡ PacketRead p user) × packet-refused p × (length f + at ≡ length (bytesIn (f ∷ b .before))))
+        ⊎ (((p : Packet) × (user : UserData) × (readOf form (b .bad) ≡ PacketRead p user) × packet-refused p × (length f + at ≡ length (bytesIn (f ∷ b .before))))
+        ⊎ ((route : Route) × (readOf form (b .bad) ≡ RouteRead route) × (why ≡ FormatError) × (length f + at ≡ length (bytesIn (f ∷ b .before)))))
     go (inl x) = inl (x .0, x .1, omega (arith, x .2, long))
-    go (inr x) = inr (x .0, x .1, x .2, x .3, omega (arith, x .4, long))
+    go (inr (inl x)) = inr (inl (x .0, x .1, x .2, x .3, omega (arith, x .4, long)))
+    go (inr (inr x)) = inr (inr (x .0, x .1, x .2, omega (arith, x .3, long)))
 
 -- the position is counted from `start`
 first-bad : (form : Form) (run : MaybeData) (start : ℕ) (fs : List (List ℕ)) (why : Refusal) (at : ℕ) → framesChecks form run start fs ≡ refusedAt why at
@@ -200,14 +214,20 @@ bad-is-refused form frames why at b = ap (framesChecks form Nothing 0) (b .split
     run = runAfter form Nothing (b .before)
 
     go : ((q : ℕ) × (readOf form (b .bad) ≡ NotRead why q) × (at ≡ length (bytesIn (b .before)) + q))
-        ⊎ ((p : Packet) × (user : UserData) × (readOf form (b .bad) ≡ PacketRead p user) × (packetVerdict run (isNone (b .after)) (asData p) ≡ Refused why)
-        × (at ≡ length (bytesIn (b .before)))) → framesChecks form Nothing 0 (b .before ++ (b .bad ∷ b .after)) ≡ refusedAt why at
+        ⊎ (((p : Packet) × (user : UserData) × (readOf form (b .bad) ≡ PacketRead p user) × (packetVerdict run (isNone (b .after)) (asData p) ≡ Refused why)
+        × (at ≡ length (bytesIn (b .before))))
+        ⊎ ((route : Route) × (readOf form (b .bad) ≡ RouteRead route) × (why ≡ FormatError) × (at ≡ length (bytesIn (b .before))))) → framesChecks form Nothing 0 (b .before ++ (b .bad ∷ b .after)) ≡ refusedAt why at
     go (inl x) =
         let same : 0 + (length (bytesIn (b .before)) + x .0) ≡ at = omega (arith, x .2) in
         after-good form Nothing 0 (b .before) (b .bad) (b .after) why (x .0) (b .before-pass) (ap (turnChecks run (isNone (b .after))) (x .1)) ∙ ap (refusedAt why) same
-    go (inr x) =
+    go (inr (inl x)) =
         let same : 0 + (length (bytesIn (b .before)) + 0) ≡ at = omega (arith, x .4) in
         after-good form Nothing 0 (b .before) (b .bad) (b .after) why 0 (b .before-pass) (ap (turnChecks run (isNone (b .after))) (x .2) ∙ ap (allAt 0) (x .3))
+        ∙ ap (refusedAt why) same
+    go (inr (inr x)) =
+        let same : 0 + (length (bytesIn (b .before)) + 0) ≡ at = omega (arith, x .3) in
+        after-good form Nothing 0 (b .before) (b .bad) (b .after) why 0 (b .before-pass)
+        (ap (turnChecks run (isNone (b .after))) (x .1) ∙ ap (λ (y : Refusal). refusedAt y 0) (sym (x .2)))
         ∙ ap (refusedAt why) same
 
 -- ---- every refusal

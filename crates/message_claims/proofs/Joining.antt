@@ -22,7 +22,7 @@ use Rattle.frame.specs.declared.Packet.{Packet}
 use Rattle.frame.specs.declared.Packet.the-variants.{Data as DataPacket}
 use Rattle.frame.specs.declared.UserData.{UserData}
 use Rattle.frame.specs.declared.Read.{Read}
-use Rattle.frame.specs.declared.Read.the-variants.{Packet as PacketRead, Refused as NotRead}
+use Rattle.frame.specs.declared.Read.the-variants.{Packet as PacketRead, Route as RouteRead, Refused as NotRead}
 use Rattle.frame.specs.Reading.{readOf, partOf, dataIn}
 use Rattle.frame.proofs.Frames.{reads-frame}
 use Rattle.frame.specs.declared.MaybeData.{MaybeData}
@@ -64,6 +64,7 @@ packet-turn form b last frame p place (SomeData d) ex er e =
 
 turn-of : (form : Form) (b : MaybeData) (last : Bool) (frame : List ℕ) (r : Read) → readOf form frame ≡ r → turnChecks b last r ≡ passed → IsTurn form b last frame
 turn-of form b last frame (PacketRead p place) er e = packet-turn form b last frame p place (asData p) refl er (all-passed 0 (packetVerdict b last (asData p)) e)
+turn-of form b last frame (RouteRead r) er e = let z : _≡_ {A = ℕ} 0 1 = cc in absurd (omega arith)
 turn-of form b last frame (NotRead why at) er e = let z : _≡_ {A = ℕ} 0 1 = cc in absurd (omega arith)
 
 -- the first frame of several, and the rest

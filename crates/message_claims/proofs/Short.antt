@@ -22,7 +22,7 @@ use Rattle.frame.specs.declared.Data.{Data}
 use Rattle.frame.specs.declared.MaybeData.{MaybeData}
 use Rattle.frame.specs.declared.MaybeData.the-variants.{Nothing, Data as SomeData}
 use Rattle.frame.specs.declared.Read.{Read}
-use Rattle.frame.specs.declared.Read.the-variants.{Packet as PacketRead, Refused as NotRead}
+use Rattle.frame.specs.declared.Read.the-variants.{Packet as PacketRead, Route as RouteRead, Refused as NotRead}
 use Rattle.frame.specs.Packets.{asData}
 use Rattle.frame.specs.Writing.{fits}
 use Rattle.frame.specs.Reading.{readNumber, readOf, dataIn}
@@ -41,9 +41,9 @@ by-fit : (b : Bool) (frames : List (List ℕ)) → cutBy (check b OutOfRange (Re
 by-fit true frames = refl
 by-fit false frames = refl
 
-in-short : (s : Start) (message : List ℕ) (room places : ℕ) → cutOf ShortUplink s message room places ≡ NotCut (cond (fits (dataOf s false) 0) ShortForm OutOfRange)
+in-short : (s : Start) (message : List ℕ) (room places : ℕ) → cutOf ShortUplink s message room places ≡ NotCut (cond (fits ShortUplink (dataOf s false) 0) ShortForm OutOfRange)
 unfolding cutOf cutVerdict
-in-short s message room places = by-fit (fits (dataOf s false) 0) (framesOf ShortUplink s message)
+in-short s message room places = by-fit (fits ShortUplink (dataOf s false) 0) (framesOf ShortUplink s message)
 
 in-long : (form : Form) (s : Start) (message : List ℕ) (room places : ℕ) → isLong form ≡ true → cutNumber (cutOf form s message room places) ≢ 23
 unfolding cutOf cutVerdict
@@ -57,8 +57,8 @@ in-long form s message room places long e =
     let never-3 = check-never 23 (leb (length (bytesIn fs)) room) OutputTooShort r4 (λ e. omega arith) never-4 in
     let never-2 = check-never 23 (leb (length message) 4096) MessageTooLong r3 (λ e. omega arith) never-3 in
     let never-1 : verdictNumber r1 ≢ 23 = subst (λ (b : Bool). verdictNumber (check b ShortForm r2) ≢ 23) (sym long) never-2 in
-    check-never 23 (formValid form) OutOfRange (check (fits (dataOf s false) 0) OutOfRange r1) (λ e. omega arith)
-    (check-never 23 (fits (dataOf s false) 0) OutOfRange r1 (λ e. omega arith) never-1)
+    check-never 23 (formValid form) OutOfRange (check (fits form (dataOf s false) 0) OutOfRange r1) (λ e. omega arith)
+    (check-never 23 (fits form (dataOf s false) 0) OutOfRange r1 (λ e. omega arith) never-1)
     (sym (cut-by (cutVerdict form s message room places) fs _ refl .0) ∙ e)
 
 -- ---- joining
@@ -86,6 +86,7 @@ from-never start (refusedAt why at) h = h
 
 turn-never : (before : MaybeData) (last : Bool) (r : Read) → readNumber r ≢ 23 → checkedNumber (turnChecks before last r) ≢ 23
 turn-never before last (PacketRead p place) h = all-never 0 (packetVerdict before last (asData p)) (packet-never before last (asData p))
+turn-never before last (RouteRead r) h = λ e. omega arith
 turn-never before last (NotRead why at) h = h
 
 frames-never : (form : Form) (before : MaybeData) (start : ℕ) (fs : List (List ℕ)) → checkedNumber (framesChecks form before start fs) ≢ 23

@@ -4,6 +4,7 @@ use mathlib.Core.Path.{_≡_}
 use mathlib.Core.Bool.{Bool, true, false, _&&_}
 use Prim.Native.Nat.{ℕ}
 use lib.Dec.{ltb}
+use Rattle.frame_form.specs.declared.Form.{Form}
 use Rattle.frame.specs.declared.Data.{Data}
 use Rattle.frame.specs.declared.Packet.the-variants.{Data as DataPacket}
 use Rattle.little.specs.Little.{flag}
@@ -14,17 +15,17 @@ use Rattle.message.proofs.Sizes.{in-range, fits-all, next-in-range}
 use Rattle.message.specs.Cutting.{dataOf, nextStart}
 
 -- neither M nor the user data's length matters
-pub start-fits : (s : Start) (more : Bool) (n : ℕ) → fits (dataOf s false) 0 ≡ true → fits (dataOf s more) n ≡ true
-start-fits s more n e = fits-all s more n (in-range s e)
+pub start-fits : (form : Form) (s : Start) (more : Bool) (n : ℕ) → fits form (dataOf s false) 0 ≡ true → fits form (dataOf s more) n ≡ true
+start-fits form s more n e = fits-all form s more n (in-range form s e)
 
-pub next-fits : (s : Start) → fits (dataOf s false) 0 ≡ true → fits (dataOf (nextStart s) false) 0 ≡ true
-next-fits s e = fits-all (nextStart s) false 0 (next-in-range s (in-range s e))
+pub next-fits : (form : Form) (s : Start) → fits form (dataOf s false) 0 ≡ true → fits form (dataOf (nextStart s) false) 0 ≡ true
+next-fits form s e = fits-all form (nextStart s) false 0 (next-in-range s (in-range form s e))
 
 -- cutting may start from the numbers of a packet that was read
 any-flag : (m x : Bool) → ((ltb (flag m) 2 && x) && true) ≡ true → ((ltb (flag false) 2 && x) && true) ≡ true
 any-flag true x e = e
 any-flag false x e = e
 
-pub fits-start : (d : Data) (n : ℕ) → fits (DataPacket d) n ≡ true → fits (dataOf (record { sn = d .sn; ps = d .ps; pr = d .pr; ch = d .ch }) false) 0 ≡ true
+pub fits-start : (form : Form) (d : Data) (n : ℕ) → fits form (DataPacket d) n ≡ true → fits form (dataOf (record { sn = d .sn; ps = d .ps; pr = d .pr; ch = d .ch }) false) 0 ≡ true
 unfolding valuesFit
-fits-start d n e = any-flag (d .m) (ltb (d .sn .0) 64 && (ltb (d .ps .0) 16 && (ltb (d .pr .0) 16 && (ltb (d .ch) 16 && true)))) e
+fits-start form d n e = any-flag (d .m) (ltb (d .sn .0) 64 && (ltb (d .ps .0) 16 && (ltb (d .pr .0) 16 && (ltb (d .ch) 16 && true)))) e

@@ -3,7 +3,7 @@
 use mathlib.Core.Path.{refl}
 use Rattle.frame_form.specs.Segments.{padding, lastUsed, wholeSegments}
 use Rattle.frame_form.specs.Frames.{framed}
-use Rattle.frame_reader.specs.Faults.{packetLength, lvRight, tailFault, firstFault}
+use Rattle.frame_reader.specs.Faults.{packetLength, lengthRight, tailFault, firstFault}
 use Rattle.frame_reader.specs.Reading.{readChecks}
 use Rattle.frame_writer.specs.Writing.{valuesFit, frameBy}
 use Rattle.frame.specs.Reading.{readOf}
@@ -12,5 +12,5 @@ use Rattle.message.specs.Joining.{dataVerdict, framesChecks, messageIn, joinChe
 use Rattle.message_claims.specs.Witness.{PastSixtyThree}
 
 pub past-sixty-three : PastSixtyThree
-unfolding padding lastUsed wholeSegments framed packetLength lvRight tailFault firstFault readChecks valuesFit frameBy readOf fullFrames framesFrom framesOf cutVerdict cutOf cutOutput cutLengths dataVerdict framesChecks messageIn joinChecks joinOf joinOutput
+unfolding padding lastUsed wholeSegments framed packetLength lengthRight tailFault firstFault readChecks valuesFit frameBy readOf fullFrames framesFrom framesOf cutVerdict cutOf cutOutput cutLengths dataVerdict framesChecks messageIn joinChecks joinOf joinOutput
 past-sixty-three = record { answer = refl; output = refl; lengths-out = refl; joined = refl; message-back = refl }

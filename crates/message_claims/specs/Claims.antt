@@ -93,7 +93,7 @@ pub record Reassembly : Type 0 where
   -- by the layout, in every valid form: the frames of every message whose numbers fit their fields
   -- are joined to it, so of every message that a site of the short form may still send
   pub frames-are-joined : (form : Form) (s : Start) (message room : List ℕ)
-      → formValid form ≡ true → fits (dataOf s false) 0 ≡ true → length message ≤ 4096 → length message ≤ length room → FramesAreJoined form s message room
+      → formValid form ≡ true → fits form (dataOf s false) 0 ≡ true → length message ≤ 4096 → length message ≤ length room → FramesAreJoined form s message room
   -- and every list of frames that joining accepts and that is as cutting makes it, is the list of
   -- the message's frames, from the numbers of the first one
   pub joined-are-frames : (form : Form) (l : ℕ) (ls bytes : List ℕ) (room n : ℕ) (d : Data) (place : UserData)
@@ -102,7 +102,7 @@ pub record Reassembly : Type 0 where
   -- in every long form, cutting accepts every message whose numbers fit their fields, if the lent
   -- lists have room for its frames
   pub is-cut : (form : Form) (s : Start) (message out lengths : List ℕ)
-      → formValid form ≡ true → isLong form ≡ true → fits (dataOf s false) 0 ≡ true → length message ≤ 4096
+      → formValid form ≡ true → isLong form ≡ true → fits form (dataOf s false) 0 ≡ true → length message ≤ 4096
       → length (bytesIn (framesOf form s message)) ≤ length out → length (framesOf form s message) ≤ length lengths → IsCut form s message out lengths
   -- every message that cutting accepts
   pub cut-is-joined : (form : Form) (s : Start) (message out lengths room : List ℕ) (count bytes : ℕ)

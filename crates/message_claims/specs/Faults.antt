@@ -8,7 +8,7 @@ use mathlib.Core.Logic.{_⊎_}
 use Prim.Native.Nat.{ℕ, _+_, _≤_}
 use lib.ListN.{length}
 use Rattle.refusal.specs.declared.Refusal.{Refusal}
-use Rattle.refusal.specs.declared.Refusal.the-variants.{OutOfRange}
+use Rattle.refusal.specs.declared.Refusal.the-variants.{OutOfRange, FormatError}
 use Rattle.refusal.specs.declared.Verdict.the-variants.{Refused}
 use Rattle.refusal.specs.Positions.{passed, refusedAt}
 use Rattle.lists.specs.Frames.{bytesIn, partsOf, sum, isNone}
@@ -17,7 +17,8 @@ use Rattle.frame.specs.declared.MaybeData.{MaybeData}
 use Rattle.frame.specs.declared.MaybeData.the-variants.{Nothing}
 use Rattle.frame.specs.declared.Packet.{Packet}
 use Rattle.frame.specs.declared.UserData.{UserData}
-use Rattle.frame.specs.declared.Read.the-variants.{Packet as PacketRead, Refused as NotRead}
+use Rattle.frame.specs.declared.Route.{Route}
+use Rattle.frame.specs.declared.Read.the-variants.{Packet as PacketRead, Route as RouteRead, Refused as NotRead}
 use Rattle.frame.specs.Packets.{asData}
 use Rattle.frame.specs.Reading.{readOf, dataIn}
 use Rattle.message.specs.declared.joining.Joined.the-variants.{Bytes, Refused as NotJoined}
@@ -47,10 +48,11 @@ pub record FirstBad (form : Form) (run : MaybeData) (frames : List (List ℕ)) (
   pub before-pass : AllPass form run before
   -- reading the bad frame is refused with `why` at its byte q, and `at` is that byte, counted from
   -- the start of all bytes; or the bad frame reads, its packet is refused with `why`, and `at` is
-  -- its first byte
+  -- its first byte; or it is a ROUTE, which is not DATA, so `why` is 3, and `at` is its first byte
   pub place : ((q : ℕ) × (readOf form bad ≡ NotRead why q) × (at ≡ length (bytesIn before) + q))
-      ⊎ ((p : Packet) × (user : UserData) × (readOf form bad ≡ PacketRead p user)
+      ⊎ (((p : Packet) × (user : UserData) × (readOf form bad ≡ PacketRead p user)
       × (packetVerdict (runAfter form run before) (isNone after) (asData p) ≡ Refused why) × (at ≡ length (bytesIn before)))
+      ⊎ ((route : Route) × (readOf form bad ≡ RouteRead route) × (why ≡ FormatError) × (at ≡ length (bytesIn before))))
 
 pub record JoinFaults : Type 0 where
   -- a message that is joined has the position 0

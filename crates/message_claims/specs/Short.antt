@@ -21,7 +21,7 @@ pub record ShortNotCut : Type 0 where
   -- in the short form, whatever the message and the room: 1 if a number does not fit its field,
   -- else 23
   pub in-short : (s : Start) (message : List ℕ) (room places : ℕ)
-      → cutOf ShortUplink s message room places ≡ Refused (cond (fits (dataOf s false) 0) ShortForm OutOfRange)
+      → cutOf ShortUplink s message room places ≡ Refused (cond (fits ShortUplink (dataOf s false) 0) ShortForm OutOfRange)
   -- in every long form, never
   pub in-long : (form : Form) (s : Start) (message : List ℕ) (room places : ℕ) → isLong form ≡ true → cutNumber (cutOf form s message room places) ≢ 23
   -- by joining, never, in any form

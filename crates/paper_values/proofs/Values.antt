@@ -9,7 +9,7 @@ use Rattle.resequencer.specs.State.{heldInWindow, clocksOnHeld, clocksApart, hs
 use Rattle.resequencer.specs.Events.{plain, places, handOn, handed, remaining, advance, heldTickets, startsClock, hold, runAfterNesn, handOnRun, takeArrival, arriveVerdict, arriveOf, passedByClock, takeClockEnd, clockEndVerdict, clockEndOf}
 use Rattle.frame_form.specs.Segments.{padding, lastUsed, wholeSegments}
 use Rattle.frame_form.specs.Frames.{framed}
-use Rattle.frame_reader.specs.Faults.{packetLength, lvRight, tailFault, firstFault}
+use Rattle.frame_reader.specs.Faults.{packetLength, lengthRight, tailFault, firstFault}
 use Rattle.frame_reader.specs.Reading.{readChecks}
 use Rattle.frame_writer.specs.Writing.{valuesFit, frameBy, writeVerdict}
 use Rattle.frame.specs.Writing.{writeOf, writeOutput}
@@ -19,7 +19,7 @@ use Rattle.route.specs.Updating.{tableAfter, those, lostBetween, updateOf}
 use Rattle.paper_values.specs.Values.{Values}
 
 pub values : Values
-unfolding listFrom distance bit member setOf first every senderInOrder sendVerdict sendOf heldInWindow clocksOnHeld clocksApart hsnrFurthest meetsClock ticketsOfHeld inOrder plain places handOn handed remaining advance heldTickets startsClock hold runAfterNesn handOnRun takeArrival arriveVerdict arriveOf passedByClock takeClockEnd clockEndVerdict clockEndOf padding lastUsed wholeSegments framed packetLength lvRight tailFault firstFault readChecks valuesFit frameBy writeVerdict writeOf writeOutput readOf parse entriesIn isIn adds deletes tableAfter those lostBetween updateOf
+unfolding listFrom distance bit member setOf first every senderInOrder sendVerdict sendOf heldInWindow clocksOnHeld clocksApart hsnrFurthest meetsClock ticketsOfHeld inOrder plain places handOn handed remaining advance heldTickets startsClock hold runAfterNesn handOnRun takeArrival arriveVerdict arriveOf passedByClock takeClockEnd clockEndVerdict clockEndOf padding lastUsed wholeSegments framed packetLength lengthRight tailFault firstFault readChecks valuesFit frameBy writeVerdict writeOf writeOutput readOf parse entriesIn isIn adds deletes tableAfter those lostBetween updateOf
 values = record {
   p1 = refl;
   p2 = refl;

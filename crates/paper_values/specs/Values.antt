@@ -29,9 +29,9 @@ use Rattle.route.specs.Updating.{emptyTable, reported, updateOf}
 
 -- ---- the window
 
--- the sending end with this edge and next
+-- the sending end with this edge and next, not held
 abbrev pub senderWith : ℕ → ℕ → Sender
-senderWith edge next = record { edge = packet edge; ps = packet next }
+senderWith edge next = record { edge = packet edge; ps = packet next; held = false }
 
 -- ---- the resequencer
 

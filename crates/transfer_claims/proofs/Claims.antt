@@ -49,7 +49,7 @@ module _ (form : Form) (frames : List (List ℕ)) (numbered : Numbered form 0 fr
 
 -- ---- a message's own frames are joined to it
 
-message-joins : (form : Form) (s : Start) (message : List ℕ) → formValid form ≡ true → fits (dataOf s false) 0 ≡ true → length message ≤ 4096
+message-joins : (form : Form) (s : Start) (message : List ℕ) → formValid form ≡ true → fits form (dataOf s false) 0 ≡ true → length message ≤ 4096
     → JoinTo form (framesOf form s message) message
 message-joins form s message good fit small out enough = let j = frames-are-joined form s message out good fit small enough in (j .answer, j .output)
 
@@ -80,18 +80,18 @@ each-first form (x ∷ xs) last (m ∷ ms) h =
     (m ∷ r .0, (r .1 .0, ap (λ (l : List Message). m ∷ l) (r .1 .1)), (h .0, r .2))
 
 module _ (form : Form) (good : formValid form ≡ true) where
-  each-joins : (s : Start) (ms : List Message) → AllSendable s ms → JoinToEach form (parted form [] (framesSent form s ms)) ms
+  each-joins : (s : Start) (ms : List Message) → AllSendable form s ms → JoinToEach form (parted form [] (framesSent form s ms)) ms
   unfolding framesSent AllSendable JoinToEach
   each-joins s [] a = unfold parted in tt
   each-joins s (m ∷ ms) a =
       let fs = framesOf form (messageStart s m) (m .bytes) in
       let rest = framesSent form (startAfter s fs) ms in
       subst (λ (runs : List (List (List ℕ))). JoinToEach form runs (m ∷ ms)) (sym (parted-one form good (messageStart s m) (m .bytes) (a .0 .1) rest))
-      (message-joins form (messageStart s m) (m .bytes) good (a .0 .1) (a .0 .0), each-joins (startAfter s fs) ms (after-sendable s fs ms (a .1)))
+      (message-joins form (messageStart s m) (m .bytes) good (a .0 .1) (a .0 .0), each-joins (startAfter s fs) ms (after-sendable form s fs ms (a .1)))
 
 -- ---- the claims
 
-one-message : (form : Form) (s : Start) (message : List ℕ) (es : List Event) → formValid form ≡ true → fits (dataOf s false) 0 ≡ true → s .sn .0 ≡ 0 → length message ≤ 4096
+one-message : (form : Form) (s : Start) (message : List ℕ) (es : List Event) → formValid form ≡ true → fits form (dataOf s false) 0 ≡ true → s .sn .0 ≡ 0 → length message ≤ 4096
     → FramesAllowedList form (framesOf form s message) es → OneMessage form s message es
 one-message form s message es good fit from-zero small ok =
     let frames = framesOf form s message in

@@ -58,31 +58,31 @@ after-number s (f ∷ fs) n e =
     let q : suc n + length fs ≡ n + length (f ∷ fs) = omega arith in
     after-number (nextStart s) fs (suc n) (next-number (s .sn .0) n e) ∙ ap (λ (x : ℕ). x % 64) q
 
-next-sendable : (s : Start) (ms : List Message) → AllSendable s ms → AllSendable (nextStart s) ms
+next-sendable : (form : Form) (s : Start) (ms : List Message) → AllSendable form s ms → AllSendable form (nextStart s) ms
 unfolding AllSendable
-next-sendable s [] a = tt
-next-sendable s (m ∷ ms) a = ((a .0 .0, next-fits (messageStart s m) (a .0 .1)), next-sendable s ms (a .1))
+next-sendable form s [] a = tt
+next-sendable form s (m ∷ ms) a = ((a .0 .0, next-fits form (messageStart s m) (a .0 .1)), next-sendable form s ms (a .1))
 
-pub after-sendable : (s : Start) (fs : List (List ℕ)) (ms : List Message) → AllSendable s ms → AllSendable (startAfter s fs) ms
+pub after-sendable : (form : Form) (s : Start) (fs : List (List ℕ)) (ms : List Message) → AllSendable form s ms → AllSendable form (startAfter s fs) ms
 unfolding startAfter
-after-sendable s [] ms a = a
-after-sendable s (f ∷ fs) ms a = after-sendable (nextStart s) fs ms (next-sendable s ms a)
+after-sendable form s [] ms a = a
+after-sendable form s (f ∷ fs) ms a = after-sendable form (nextStart s) fs ms (next-sendable form s ms a)
 
 -- ---- the frames of one message
 
 module _ (form : Form) (good : formValid form ≡ true) where
-  numbered-from : (k : ℕ) (s : Start) (message : List ℕ) (n : ℕ) → fits (dataOf s false) 0 ≡ true → s .sn .0 ≡ n % 64 → length message ≤ suc k * shareOf form
+  numbered-from : (k : ℕ) (s : Start) (message : List ℕ) (n : ℕ) → fits form (dataOf s false) 0 ≡ true → s .sn .0 ≡ n % 64 → length message ≤ suc k * shareOf form
       → Numbered form n (framesFrom form k s message)
   unfolding Numbered framesFrom
   numbered-from zero s message n fit e small = (ap snIn (share-reads form good s fit false message (one-share (shareOf form) message small)) ∙ e, tt)
   numbered-from (suc k) s message n fit e small =
       let share = shareOf form in (
         ap snIn (share-reads form good s fit true (take share message) (share-taken share message)) ∙ e,
-        numbered-from k (nextStart s) (drop share message) (suc n) (next-fits s fit) (next-number (s .sn .0) n e) (share-left share k message small),
+        numbered-from k (nextStart s) (drop share message) (suc n) (next-fits form s fit) (next-number (s .sn .0) n e) (share-left share k message small),
       )
 
   -- a run of frames ends with the last of a message
-  parted-from : (k : ℕ) (s : Start) (message : List ℕ) (begun rest : List (List ℕ)) → fits (dataOf s false) 0 ≡ true → length message ≤ suc k * shareOf form
+  parted-from : (k : ℕ) (s : Start) (message : List ℕ) (begun rest : List (List ℕ)) → fits form (dataOf s false) 0 ≡ true → length message ≤ suc k * shareOf form
       → parted form begun (framesFrom form k s message ++ rest) ≡ (begun ++ framesFrom form k s message) ∷ parted form [] rest
   unfolding parted framesFrom
   parted-from zero s message begun rest fit small =
@@ -95,10 +95,10 @@ module _ (form : Form) (good : formValid form ≡ true) where
       let fs = framesFrom form k (nextStart s) (drop share message) in
       ap (λ (r : Read). cond (moreFollows r) (parted form (begun ++ (f ∷ [])) (fs ++ rest)) ((begun ++ (f ∷ [])) ∷ parted form [] (fs ++ rest)))
       (share-reads form good s fit true (take share message) (share-taken share message))
-      ∙ parted-from k (nextStart s) (drop share message) (begun ++ (f ∷ [])) rest (next-fits s fit) (share-left share k message small)
+      ∙ parted-from k (nextStart s) (drop share message) (begun ++ (f ∷ [])) rest (next-fits form s fit) (share-left share k message small)
       ∙ ap (λ (l : List (List ℕ)). l ∷ parted form [] rest) (append-assoc begun (f ∷ []) fs)
 
-  module _ (s : Start) (message : List ℕ) (fit : fits (dataOf s false) 0 ≡ true) where
+  module _ (s : Start) (message : List ℕ) (fit : fits form (dataOf s false) 0 ≡ true) where
     enough : length message ≤ suc (fullFrames (shareOf form) (length message)) * shareOf form
     enough = let some : 1 ≤ shareOf form = omega (arith, share-range form good .0) in shares-hold (shareOf form) (length message) some
 
@@ -112,11 +112,11 @@ module _ (form : Form) (good : formValid form ≡ true) where
 
   -- ---- the frames of all messages
 
-  pub numbered-sent : (s : Start) (ms : List Message) (n : ℕ) → s .sn .0 ≡ n % 64 → AllSendable s ms → Numbered form n (framesSent form s ms)
+  pub numbered-sent : (s : Start) (ms : List Message) (n : ℕ) → s .sn .0 ≡ n % 64 → AllSendable form s ms → Numbered form n (framesSent form s ms)
   unfolding framesSent AllSendable
   numbered-sent s [] n e a = unfold Numbered in tt
   numbered-sent s (m ∷ ms) n e a =
       let fs = framesOf form (messageStart s m) (m .bytes) in
       numbered-append form n fs (framesSent form (startAfter s fs) ms)
       (numbered-one (messageStart s m) (m .bytes) (a .0 .1) n e)
-      (numbered-sent (startAfter s fs) ms (n + length fs) (after-number s fs n e) (after-sendable s fs ms (a .1)))
+      (numbered-sent (startAfter s fs) ms (n + length fs) (after-number s fs n e) (after-sendable form s fs ms (a .1)))

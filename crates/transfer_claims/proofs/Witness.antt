@@ -7,7 +7,7 @@ use native.Mathlib.Omega.{arith}
 use lib.ListN.{length}
 use Rattle.frame_form.specs.Segments.{padding, lastUsed, wholeSegments}
 use Rattle.frame_form.specs.Frames.{framed}
-use Rattle.frame_reader.specs.Faults.{packetLength, lvRight, tailFault, firstFault}
+use Rattle.frame_reader.specs.Faults.{packetLength, lengthRight, tailFault, firstFault}
 use Rattle.frame_reader.specs.Reading.{readChecks}
 use Rattle.frame_writer.specs.Writing.{valuesFit, frameBy}
 use Rattle.frame.specs.Writing.{fits}
@@ -28,11 +28,11 @@ unfolding padding lastUsed framed frameBy fullFrames framesFrom framesOf
 count = refl
 
 last-number : snIn (readOf oneSegment (frameAt (framesOf oneSegment firstNumbers manyBytes) 63)) ≡ 63
-unfolding padding lastUsed wholeSegments framed packetLength lvRight tailFault firstFault readChecks frameBy readOf fullFrames framesFrom framesOf
+unfolding padding lastUsed wholeSegments framed packetLength lengthRight tailFault firstFault readChecks frameBy readOf fullFrames framesFrom framesOf
 last-number = refl
 
 first-again : snIn (readOf oneSegment (frameAt (framesOf oneSegment firstNumbers manyBytes) 64)) ≡ 0
-unfolding padding lastUsed wholeSegments framed packetLength lvRight tailFault firstFault readChecks frameBy readOf fullFrames framesFrom framesOf
+unfolding padding lastUsed wholeSegments framed packetLength lengthRight tailFault firstFault readChecks frameBy readOf fullFrames framesFrom framesOf
 first-again = refl
 
 one-by-one : FramesAllowedList oneSegment (framesOf oneSegment firstNumbers manyBytes) (oneByOne 0 65)
@@ -41,7 +41,7 @@ one-by-one =
     subst (λ (n : ℕ). FramesAllowedList oneSegment (framesOf oneSegment firstNumbers manyBytes) (oneByOne 0 n) × Complete (framesOf oneSegment firstNumbers manyBytes) (oneByOne 0 n)) count
     (transfer .possible oneSegment (framesOf oneSegment firstNumbers manyBytes))
 
-fit : fits (dataOf firstNumbers false) 0 ≡ true
+fit : fits oneSegment (dataOf firstNumbers false) 0 ≡ true
 unfolding valuesFit
 fit = refl
 

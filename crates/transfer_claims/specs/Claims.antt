@@ -33,20 +33,20 @@ use Rattle.transfer_claims.specs.Circuit.{Message, messageStart, framesS
 -- "from SN 0"
 
 -- a message that may be cut, if its first frame has SN, PS and CH of s: neither refusal 1 nor 4
-abbrev pub Sendable : Start → Message → Type 0
-Sendable s m = (length (m .bytes) ≤ 4096) × (fits (dataOf (messageStart s m) false) 0 ≡ true)
+abbrev pub Sendable : Form → Start → Message → Type 0
+Sendable form s m = (length (m .bytes) ≤ 4096) × (fits form (dataOf (messageStart s m) false) 0 ≡ true)
 
 -- the same of each message; SN and PS of the later ones need not be computed, since they stay in
 -- range
-unfoldable pub AllSendable : Start → List Message → Type 0
-AllSendable s [] = Unit {0}
-AllSendable s (m ∷ ms) = Sendable s m × AllSendable s ms
+unfoldable pub AllSendable : Form → Start → List Message → Type 0
+AllSendable form s [] = Unit {0}
+AllSendable form s (m ∷ ms) = Sendable form s m × AllSendable form s ms
 
 -- what is sent: messages that may be cut, in a valid form, the first from SN 0
 pub record Sent (form : Form) (s : Start) (ms : List Message) : Type 0 where
   pub form-good : formValid form ≡ true
   pub from-zero : s .sn .0 ≡ 0
-  pub sendable : AllSendable s ms
+  pub sendable : AllSendable form s ms
 
 -- ---- how it may arrive
 
@@ -128,10 +128,10 @@ oneByOne n (suc m) = packet n ∷ oneByOne (suc n) m
 pub record Transfer : Type 0 where
   -- "cut it": in a long form, if the lent lists have room for the frames
   pub cut : (form : Form) (s : Start) (message out lengths : List ℕ)
-      → formValid form ≡ true → isLong form ≡ true → fits (dataOf s false) 0 ≡ true → length message ≤ 4096
+      → formValid form ≡ true → isLong form ≡ true → fits form (dataOf s false) 0 ≡ true → length message ≤ 4096
       → length (bytesIn (framesOf form s message)) ≤ length out → length (framesOf form s message) ≤ length lengths → IsCut form s message out lengths
   pub one-message : (form : Form) (s : Start) (message : List ℕ) (es : List Event)
-      → formValid form ≡ true → fits (dataOf s false) 0 ≡ true → s .sn .0 ≡ 0 → length message ≤ 4096
+      → formValid form ≡ true → fits form (dataOf s false) 0 ≡ true → s .sn .0 ≡ 0 → length message ≤ 4096
       → FramesAllowedList form (framesOf form s message) es → OneMessage form s message es
   pub messages : (form : Form) (s : Start) (ms : List Message) (es : List Event)
       → Sent form s ms → FramesAllowedList form (framesSent form s ms) es → Messages form s ms es

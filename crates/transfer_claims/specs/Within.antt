@@ -22,4 +22,4 @@ pub record Within (s : Start) (message : List ℕ) : Type 0 where
 
 -- of every message of at most 4,096 bytes that is cut from SN 0, with numbers that fit their fields
 abbrev pub WithinClaim : Type 0
-WithinClaim = (s : Start) (message : List ℕ) → fits (dataOf s false) 0 ≡ true → s .sn .0 ≡ 0 → length message ≤ 4096 → Within s message
+WithinClaim = (s : Start) (message : List ℕ) → fits demoForm (dataOf s false) 0 ≡ true → s .sn .0 ≡ 0 → length message ≤ 4096 → Within s message

@@ -239,7 +239,8 @@ fn arrive(state: Resequencer, frame: &[u8], place: usize) -> Answer
     state.arrive(LinkNumber(sn), place as u16)
 }
 
-// The SN of the packet that was read; 64, which its field cannot hold, if the frame was refused.
+// The SN of the packet that was read; 64, which its field cannot hold, of a ROUTE, which has none,
+// and if the frame was refused.
 fn number_of(read: Read) -> u8
     ensures { λ r. ⌜ r ≡ snIn read ⌝ }
 {
@@ -248,6 +249,7 @@ fn number_of(read: Read) -> u8
             let sn = packet.sn();
             sn.0
         }
+        Read::Route(_route) => 64,
         Read::Refused(_why, _at) => 64,
     }
 }

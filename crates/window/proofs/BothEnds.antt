@@ -4,10 +4,10 @@
 -- refused.
 -- Assumes nothing.
 use mathlib.Core.Path.{_≡_, refl, sym, ap, ap₂, _∙_, subst}
-use mathlib.Core.Bool.{true}
+use mathlib.Core.Bool.{Bool, true, false}
+use mathlib.Core.Logic.{inl, inr}
 use mathlib.Core.List.{List, [], _∷_, _++_, map}
 use Prim.Native.Nat.{ℕ, zero, suc, _+_, _%_, _≤_, zero-le}
-use native.Mathlib.Decide.{decLe}
 use native.Mathlib.Omega.{arith}
 use lib.ListN.{length, replicate}
 use Rattle.window.specs.declared.sender.Sender.{Sender}
@@ -19,11 +19,11 @@ use Rattle.refusal.specs.declared.Verdict.the-variants.{Done}
 use Rattle.refusal.specs.Numbers.{verdictNumber}
 use Rattle.sequence.specs.declared.PacketNumber.{PacketNumber}
 use Rattle.sequence.specs.Numbers.{packet}
-use Rattle.window.specs.Sending.{freshSender, sendOf, acknowledgeOf}
+use Rattle.window.specs.Sending.{freshSender, sendOf}
 use Rattle.window.specs.Receiving.{freshReceiver, receiverInOrder, receiptNumber}
-use Rattle.window.specs.History.{noteGrant}
-use Rattle.window.specs.BothEnds.{Flow, FlowEvent, grant, deliver, tell, deliverPr, noteTelling, delivered, deliveredPr, flowStep, flowRun, NoneRefused}
-use Rattle.window.proofs.Ends.{senderAt, send-open, send-closed, acknowledge-taken, taken-good, fresh-good, tell-told, tell-good, receive-taken}
+use Rattle.window.specs.History.{Carrier, prOf, noteGrant}
+use Rattle.window.specs.BothEnds.{OnTheWay, Flow, FlowEvent, grant, deliver, tell, deliverPr, noteTelling, delivered, deliveredPr, flowStep, flowRun, NoneRefused}
+use Rattle.window.proofs.Ends.{senderAt, SendCases, send-cases, markAfter, pr-taken, taken-good, fresh-good, tell-told, tell-good, receive-taken}
 
 -- the PS of the n packets starting at true number s
 abbrev numbersFrom : ℕ → ℕ → List ℕ
@@ -34,29 +34,38 @@ from-more : (s n : ℕ) → numbersFrom s n ++ ((s + n) % 16 ∷ []) ≡ numbers
 from-more s zero = ap (λ (x : ℕ). x % 16 ∷ []) (omega arith)
 from-more s (suc n) = ap (λ (l : List ℕ). s % 16 ∷ l) (ap (λ (x : ℕ). numbersFrom (suc s) n ++ (x % 16 ∷ [])) (omega arith) ∙ from-more (suc s) n)
 
+-- a PR on the way in true numbers, and the packet that carries it
+record TrueTelling : Type 0 where
+  carrier : Carrier
+  count : ℕ
+
 -- true numbers that do not fall, from low up to high
-abbrev Rising : ℕ → ℕ → List ℕ → Type 0
+abbrev Rising : ℕ → ℕ → List TrueTelling → Type 0
 Rising low high [] = low ≤ high
-Rising low high (t ∷ ts) = (low ≤ t) × Rising t high ts
+Rising low high (t ∷ ts) = (low ≤ t .count) × Rising (t .count) high ts
 
-rising-more : (low high : ℕ) (ts : List ℕ) → Rising low high ts → Rising low high (ts ++ (high ∷ []))
-rising-more low high [] r = (r, omega arith)
-rising-more low high (t ∷ ts) r = (r .0, rising-more t high ts (r .1))
+rising-more : (low high : ℕ) (carrier : Carrier) (ts : List TrueTelling) → Rising low high ts
+    → Rising low high (ts ++ (record { carrier = carrier; count = high } ∷ []))
+rising-more low high carrier [] r = (r, omega arith)
+rising-more low high carrier (t ∷ ts) r = (r .0, rising-more (t .count) high carrier ts (r .1))
 
-rising-wider : (low high higher : ℕ) (ts : List ℕ) → high ≤ higher → Rising low high ts → Rising low higher ts
+rising-wider : (low high higher : ℕ) (ts : List TrueTelling) → high ≤ higher → Rising low high ts → Rising low higher ts
 rising-wider low high higher [] h r = omega arith
-rising-wider low high higher (t ∷ ts) h r = (r .0, rising-wider t high higher ts h (r .1))
+rising-wider low high higher (t ∷ ts) h r = (r .0, rising-wider (t .count) high higher ts h (r .1))
 
-rising-ends : (low high : ℕ) (ts : List ℕ) → Rising low high ts → low ≤ high
+rising-ends : (low high : ℕ) (ts : List TrueTelling) → Rising low high ts → low ≤ high
 rising-ends low high [] r = r
-rising-ends low high (t ∷ ts) r = omega (arith, r .0, rising-ends t high ts (r .1))
+rising-ends low high (t ∷ ts) r = omega (arith, r .0, rising-ends (t .count) high ts (r .1))
 
-abbrev wrapped : List ℕ → List ℕ
-wrapped = map (λ (t : ℕ). t % 16)
+abbrev wrap : TrueTelling → OnTheWay
+wrap t = record { carrier = t .carrier; pr = t .count % 16 }
 
-map-more : (ts : List ℕ) (t : ℕ) → wrapped ts ++ (t % 16 ∷ []) ≡ wrapped (ts ++ (t ∷ []))
+abbrev wrapped : List TrueTelling → List OnTheWay
+wrapped = map wrap
+
+map-more : (ts : List TrueTelling) (t : TrueTelling) → wrapped ts ++ (wrap t ∷ []) ≡ wrapped (ts ++ (t ∷ []))
 map-more [] t = refl
-map-more (x ∷ ts) t = ap (λ (l : List ℕ). x % 16 ∷ l) (map-more ts t)
+map-more (x ∷ ts) t = ap (λ (l : List OnTheWay). wrap x ∷ l) (map-more ts t)
 
 -- all refusal numbers are 0
 abbrev AllDone : List ℕ → Type 0
@@ -73,8 +82,9 @@ record Kept (f : Flow) : Type 0 where
   acknowledged : ℕ
   taken : ℕ
   on-the-way : ℕ
-  told : List ℕ
-  sender-at : f .sender ≡ senderAt acknowledged (taken + on-the-way)
+  told : List TrueTelling
+  held : Bool
+  sender-at : f .sender ≡ senderAt acknowledged (taken + on-the-way) held
   window : taken + on-the-way ≤ acknowledged + 15
   receiver-at : f .receiver .expected ≡ packet (taken % 16)
   receiver-good : receiverInOrder (f .receiver) ≡ true
@@ -96,46 +106,45 @@ grantedBy f r = record {
 }
 
 grant-keeps : (f : Flow) → Kept f → Kept (flowStep f grant)
-grant-keeps f k = elim (decLe (k .taken + k .on-the-way) (k .acknowledged + 14)) [
-  | yes h ↦
-      subst (λ (r : Sent). Kept (grantedBy f r))
-      (sym (ap sendOf (k .sender-at) ∙ send-open (k .acknowledged) (k .taken + k .on-the-way) ahead h))
-      (record {
-        acknowledged = k .acknowledged;
-        taken = k .taken;
-        on-the-way = suc (k .on-the-way);
-        told = k .told;
-        sender-at = ap (senderAt (k .acknowledged)) (omega arith);
-        window = omega arith;
-        receiver-at = k .receiver-at;
-        receiver-good = k .receiver-good;
-        packets-are =
-            ap (λ (l : List ℕ). l ++ ((k .taken + k .on-the-way) % 16 ∷ [])) (k .packets-are) ∙ from-more (k .taken) (k .on-the-way);
-        tellings-are = k .tellings-are;
-        rising = k .rising;
-        all-done = k .all-done;
-      })
-  | no h ↦
-      subst (λ (r : Sent). Kept (grantedBy f r))
-      (sym (ap sendOf (k .sender-at) ∙ send-closed (k .acknowledged) (k .taken + k .on-the-way) (omega (arith, k .window))))
-      (record {
-        acknowledged = k .acknowledged;
-        taken = k .taken;
-        on-the-way = k .on-the-way;
-        told = k .told;
-        sender-at = refl;
-        window = k .window;
-        receiver-at = k .receiver-at;
-        receiver-good = k .receiver-good;
-        packets-are = k .packets-are;
-        tellings-are = k .tellings-are;
-        rising = k .rising;
-        all-done = k .all-done;
-      })
-]
+grant-keeps f k = go (send-cases (k .acknowledged) (k .taken + k .on-the-way) (k .held) ahead (k .window))
   where
     ahead : k .acknowledged ≤ k .taken + k .on-the-way
     ahead = omega (arith, rising-ends (k .acknowledged) (k .taken) (k .told) (k .rising))
+
+    go : SendCases (k .acknowledged) (k .taken + k .on-the-way) (k .held) → Kept (grantedBy f (sendOf (f .sender)))
+    go (inl w) =
+        subst (λ (r : Sent). Kept (grantedBy f r)) (sym (ap sendOf (k .sender-at) ∙ w .1)) (record {
+          acknowledged = k .acknowledged;
+          taken = k .taken;
+          on-the-way = suc (k .on-the-way);
+          told = k .told;
+          held = k .held;
+          sender-at = ap (λ (n : ℕ). senderAt (k .acknowledged) n (k .held)) (omega arith);
+          window = omega (arith, w .0);
+          receiver-at = k .receiver-at;
+          receiver-good = k .receiver-good;
+          packets-are =
+              ap (λ (l : List ℕ). l ++ ((k .taken + k .on-the-way) % 16 ∷ [])) (k .packets-are) ∙ from-more (k .taken) (k .on-the-way);
+          tellings-are = k .tellings-are;
+          rising = k .rising;
+          all-done = k .all-done;
+        })
+    go (inr w) =
+        subst (λ (r : Sent). Kept (grantedBy f r)) (sym (ap sendOf (k .sender-at) ∙ w)) (record {
+          acknowledged = k .acknowledged;
+          taken = k .taken;
+          on-the-way = k .on-the-way;
+          told = k .told;
+          held = k .held;
+          sender-at = refl;
+          window = k .window;
+          receiver-at = k .receiver-at;
+          receiver-good = k .receiver-good;
+          packets-are = k .packets-are;
+          tellings-are = k .tellings-are;
+          rising = k .rising;
+          all-done = k .all-done;
+        })
 
 deliver-keeps : (f : Flow) → Kept f → Kept (flowStep f deliver)
 deliver-keeps f k = subst (λ (l : List ℕ). Kept (delivered f l)) (sym (k .packets-are)) (go (k .on-the-way) refl)
@@ -149,7 +158,8 @@ deliver-keeps f k = subst (λ (l : List ℕ). Kept (delivered f l)) (sym (k .pac
           taken = suc (k .taken);
           on-the-way = n;
           told = k .told;
-          sender-at = k .sender-at ∙ ap (senderAt (k .acknowledged)) (omega arith);
+          held = k .held;
+          sender-at = k .sender-at ∙ ap (λ (n : ℕ). senderAt (k .acknowledged) n (k .held)) (omega arith);
           window = omega (arith, k .window);
           receiver-at = ap (λ (a : Received). a .next .expected) r;
           receiver-good = ap (λ (a : Received). receiverInOrder (a .next)) r ∙ taken-good (suc (k .taken)) (f .receiver .untold + 1);
@@ -160,43 +170,46 @@ deliver-keeps f k = subst (λ (l : List ℕ). Kept (delivered f l)) (sym (k .pac
               subst (λ (x : ℕ). AllDone (f .numbers ++ (x ∷ []))) (sym (ap (λ (a : Received). receiptNumber (a .answer)) r)) (done-more (f .numbers) (k .all-done));
         }
 
-tell-keeps : (f : Flow) → Kept f → Kept (flowStep f tell)
-tell-keeps f k =
+tell-keeps : (f : Flow) (carrier : Carrier) → Kept f → Kept (flowStep f (tell carrier))
+tell-keeps f carrier k =
     let r = tell-told (f .receiver) (k .receiver-good) in
     record {
       acknowledged = k .acknowledged;
       taken = k .taken;
       on-the-way = k .on-the-way;
-      told = k .told ++ (k .taken ∷ []);
+      told = k .told ++ (record { carrier = carrier; count = k .taken } ∷ []);
+      held = k .held;
       sender-at = k .sender-at;
       window = k .window;
       receiver-at = ap (λ (a : Told). a .next .expected) r ∙ k .receiver-at;
       receiver-good = tell-good (f .receiver) (k .receiver-good);
       packets-are = k .packets-are;
       tellings-are =
-          ap (λ (a : Told). noteTelling (a .answer) (f .tellings)) r
-          ∙ ap₂ (λ (l : List ℕ) (p : PacketNumber). l ++ (p .0 ∷ [])) (k .tellings-are) (k .receiver-at)
-          ∙ map-more (k .told) (k .taken);
-      rising = rising-more (k .acknowledged) (k .taken) (k .told) (k .rising);
+          ap (λ (a : Told). noteTelling (a .answer) carrier (f .tellings)) r
+          ∙ ap₂ (λ (l : List OnTheWay) (p : PacketNumber). l ++ (record { carrier = carrier; pr = p .0 } ∷ [])) (k .tellings-are) (k .receiver-at)
+          ∙ map-more (k .told) (record { carrier = carrier; count = k .taken });
+      rising = rising-more (k .acknowledged) (k .taken) carrier (k .told) (k .rising);
       all-done = k .all-done;
     }
 
 deliverPr-keeps : (f : Flow) → Kept f → Kept (flowStep f deliverPr)
-deliverPr-keeps f k = subst (λ (l : List ℕ). Kept (deliveredPr f l)) (sym (k .tellings-are)) (go (k .told) (k .rising))
+deliverPr-keeps f k = subst (λ (l : List OnTheWay). Kept (deliveredPr f l)) (sym (k .tellings-are)) (go (k .told) (k .rising))
   where
-    go : (ts : List ℕ) → Rising (k .acknowledged) (k .taken) ts → Kept (deliveredPr f (wrapped ts))
+    go : (ts : List TrueTelling) → Rising (k .acknowledged) (k .taken) ts → Kept (deliveredPr f (wrapped ts))
     go [] h = k
     go (t ∷ ts) h =
-        let far : t ≤ k .taken = rising-ends t (k .taken) ts (h .1) in
-        let near : k .acknowledged ≤ t = h .0 in
-        let r : acknowledgeOf (f .sender) (t % 16) ≡ record { verdict = Done; next = senderAt t (k .taken + k .on-the-way) } =
-        ap (λ (s : Sender). acknowledgeOf s (t % 16)) (k .sender-at)
-        ∙ acknowledge-taken (k .acknowledged) t (k .taken + k .on-the-way) near (omega arith) (k .window) in
+        let far : t .count ≤ k .taken = rising-ends (t .count) (k .taken) ts (h .1) in
+        let near : k .acknowledged ≤ t .count = h .0 in
+        let after : Bool = markAfter (t .carrier) (k .held) in
+        let r : prOf (t .carrier) (f .sender) (t .count % 16) ≡ record { verdict = Done; next = senderAt (t .count) (k .taken + k .on-the-way) after } =
+        ap (λ (s : Sender). prOf (t .carrier) s (t .count % 16)) (k .sender-at)
+        ∙ pr-taken (t .carrier) (k .acknowledged) (t .count) (k .taken + k .on-the-way) (k .held) near (omega arith) (k .window) in
         record {
-          acknowledged = t;
+          acknowledged = t .count;
           taken = k .taken;
           on-the-way = k .on-the-way;
           told = ts;
+          held = after;
           sender-at = ap (λ (a : Acknowledged). a .next) r;
           window = omega (arith, k .window);
           receiver-at = k .receiver-at;
@@ -211,7 +224,7 @@ deliverPr-keeps f k = subst (λ (l : List ℕ). Kept (deliveredPr f l)) (sym (k 
 step-keeps : (f : Flow) (e : FlowEvent) → Kept f → Kept (flowStep f e)
 step-keeps f grant k = grant-keeps f k
 step-keeps f deliver k = deliver-keeps f k
-step-keeps f tell k = tell-keeps f k
+step-keeps f (tell carrier) k = tell-keeps f carrier k
 step-keeps f deliverPr k = deliverPr-keeps f k
 
 run-keeps : (f : Flow) (events : List FlowEvent) → Kept f → Kept (flowRun f events)
@@ -226,6 +239,7 @@ none-refused events =
       taken = 0;
       on-the-way = 0;
       told = [];
+      held = false;
       sender-at = refl;
       window = zero-le;
       receiver-at = refl;

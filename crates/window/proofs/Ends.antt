@@ -9,7 +9,7 @@ use native.Mathlib.Numerals.{add-one}
 use mathlib.Core.Logic.{_⊎_, inl, inr}
 use native.Mathlib.Omega.{arith}
 use lib.Dec.{leb, eqb, lit<}
-use borrow.Author.Tests.{le-leb, lt-leb, lt-ltb, eq-eqb, leb-true, ltb-true, eqb-true}
+use borrow.Author.Tests.{le-leb, lt-ltb, eq-eqb, leb-true, ltb-true, eqb-true}
 use Rattle.refusal.specs.declared.Verdict.{Verdict}
 use Rattle.refusal.specs.declared.Verdict.the-variants.{Done, Refused}
 use Rattle.refusal.specs.declared.Refusal.{Refusal}
@@ -24,21 +24,22 @@ use Rattle.window.specs.declared.sender.Grant.the-variants.{Granted, Ref
 use Rattle.window.specs.declared.receiver.Receiver.{Receiver}
 use Rattle.window.specs.declared.receiver.Receipt.the-variants.{Taken, Refused as NotTaken}
 use Rattle.window.specs.declared.receiver.Telling.the-variants.{Tell}
-use Rattle.window.specs.Sending.{senderInOrder, sendVerdict, sendOf, acknowledgeVerdict, acknowledgeOf}
+use Rattle.window.specs.Sending.{senderInOrder, sendVerdict, sendOf, acknowledgeVerdict, acknowledgeBy, acknowledgeOf, readyOf, notReadyOf, rejectOf}
+use Rattle.window.specs.History.{Carrier, byData, ready, notReady, reject, prOf}
 use Rattle.window.specs.Receiving.{freshReceiver, receiverInOrder, receiveVerdict, countAfter, dueAfter, receiveOf, tellVerdict, tellOf}
 
 -- ---- the sending end
 
 -- the end after a packets acknowledged and g granted
-abbrev pub senderAt : ℕ → ℕ → Sender
-senderAt a g = record { edge = packet (a % 16); ps = packet (g % 16) }
+abbrev pub senderAt : ℕ → ℕ → Bool → Sender
+senderAt a g held = record { edge = packet (a % 16); ps = packet (g % 16); held = held }
 
 small : (n : ℕ) → leb (n % 16) 15 ≡ true
 small n = le-leb (n % 16) 15 (omega arith)
 
-pub sender-good : (a g : ℕ) → senderInOrder (senderAt a g) ≡ true
+pub sender-good : (a g : ℕ) (held : Bool) → senderInOrder (senderAt a g held) ≡ true
 unfolding senderInOrder
-sender-good a g = simp (small a, small g)
+sender-good a g held = simp (small a, small g)
 
 -- the number after n, modulo 16
 after : (n : ℕ) → next 16 (n % 16) ≡ suc n % 16
@@ -49,52 +50,72 @@ apart a g l h =
     let e : g ≡ a + (g - a) = omega arith in
     ap (λ (x : ℕ). distance 16 (a % 16) (x % 16)) e ∙ distance-apart 16 (lit< tt) a (g - a) (omega arith)
 
--- while at most 14 are unacknowledged, the next one is granted
-pub send-open : (a g : ℕ) → a ≤ g → g ≤ a + 14
-    → sendOf (senderAt a g) ≡ record { answer = Granted (packet (g % 16)); next = senderAt a (suc g) }
-unfolding sendOf sendVerdict
-send-open a g l h =
-    let e : leb (distance 16 (a % 16) (g % 16)) 14 ≡ true = ap (λ (x : ℕ). leb x 14) (apart a g l (omega arith)) ∙ le-leb (g - a) 14 (omega arith) in
-    let n : next 16 (g % 16) ≡ suc g % 16 = after g in
-    simp (sender-good a g, e, n)
+-- at most 14 are unacknowledged and the next one is granted, or none is and the end stays the same
+abbrev pub SendCases : ℕ → ℕ → Bool → Type 0
+SendCases a g held =
+    ((g ≤ a + 14) × (sendOf (senderAt a g held) ≡ record { answer = Granted (packet (g % 16)); next = senderAt a (suc g) held }))
+    ⊎ (sendOf (senderAt a g held) ≡ record { answer = NotGranted WindowClosed; next = senderAt a g held })
 
--- with 15 unacknowledged, no packet is granted
-pub send-closed : (a g : ℕ) → g ≡ a + 15 → sendOf (senderAt a g) ≡ record { answer = NotGranted WindowClosed; next = senderAt a g }
+pub send-cases : (a g : ℕ) (held : Bool) → a ≤ g → g ≤ a + 15 → SendCases a g held
 unfolding sendOf sendVerdict
-send-closed a g h =
-    let e : leb (distance 16 (a % 16) (g % 16)) 14 ≡ false = ap (λ (x : ℕ). leb x 14) (apart a g (omega arith) (omega arith)) ∙ lt-leb (g - a) 14 (omega arith) in
-    simp (sender-good a g, e)
+send-cases a g held l h = go (leb (distance 16 (a % 16) (g % 16)) 14 && not held) refl
+  where
+    go : (b : Bool) → (leb (distance 16 (a % 16) (g % 16)) 14 && not held) ≡ b → SendCases a g held
+    go true e =
+        let near : distance 16 (a % 16) (g % 16) ≤ 14 = leb-true _ 14 (both-true _ (not held) e .0) in
+        inl (omega (arith, near, apart a g l h), simp (sender-good a g held, e, after g))
+    go false e = inr (simp (sender-good a g held, e))
 
 -- a PR in true numbers: it is a + distance modulo 16
 reached : (a pr : ℕ) → pr < 16 → packet pr ≡ packet ((a + distance 16 a pr) % 16)
 reached a pr h = ap packet (sym (distance-reaches 16 (lit< tt) a pr ∙ mod-eq-of-lt h))
 
+-- the mark after an accepted PR
+abbrev pub markAfter : Carrier → Bool → Bool
+markAfter byData held = held
+markAfter ready held = false
+markAfter notReady held = true
+markAfter reject held = false
+
+-- the packet that carries a PR decides the mark, and nothing else
+pub pr-by : (carrier : Carrier) (s : Sender) (pr : ℕ) → prOf carrier s pr ≡ acknowledgeBy (acknowledgeVerdict s pr) s pr (markAfter carrier (s .held))
+unfolding acknowledgeOf readyOf notReadyOf rejectOf
+pr-by byData s pr = refl
+pr-by ready s pr = refl
+pr-by notReady s pr = refl
+pr-by reject s pr = refl
+
 -- a PR is accepted and its true number is between a and g, or it is refused and the end stays the
 -- same
-pub acknowledge-cases : (a g pr : ℕ) → a ≤ g → g ≤ a + 15
-    → ((a + distance 16 a pr ≤ g) × (acknowledgeOf (senderAt a g) pr ≡ record { verdict = Done; next = senderAt (a + distance 16 a pr) g }))
-    ⊎ ((why : Refusal) × (acknowledgeOf (senderAt a g) pr ≡ record { verdict = Refused why; next = senderAt a g }))
-unfolding acknowledgeOf acknowledgeVerdict
-acknowledge-cases a g pr l h = go (acknowledgeVerdict (senderAt a g) pr) refl
+abbrev pub PrCases : Carrier → ℕ → ℕ → Bool → ℕ → Type 0
+PrCases carrier a g held pr =
+    ((a + distance 16 a pr ≤ g)
+    × (prOf carrier (senderAt a g held) pr ≡ record { verdict = Done; next = senderAt (a + distance 16 a pr) g (markAfter carrier held) }))
+    ⊎ ((why : Refusal) × (prOf carrier (senderAt a g held) pr ≡ record { verdict = Refused why; next = senderAt a g held }))
+
+pub pr-cases : (carrier : Carrier) (a g : ℕ) (held : Bool) (pr : ℕ) → a ≤ g → g ≤ a + 15 → PrCases carrier a g held pr
+unfolding acknowledgeVerdict
+pr-cases carrier a g held pr l h = go (acknowledgeVerdict (senderAt a g held) pr) refl
   where
-    go : (v : Verdict) → acknowledgeVerdict (senderAt a g) pr ≡ v
-        → ((a + distance 16 a pr ≤ g) × (acknowledgeOf (senderAt a g) pr ≡ record { verdict = Done; next = senderAt (a + distance 16 a pr) g }))
-        ⊎ ((why : Refusal) × (acknowledgeOf (senderAt a g) pr ≡ record { verdict = Refused why; next = senderAt a g }))
+    go : (v : Verdict) → acknowledgeVerdict (senderAt a g held) pr ≡ v → PrCases carrier a g held pr
     go Done e =
-        let tests = check-done (inField 16 pr) _ _ (check-done (senderInOrder (senderAt a g)) _ _ e .1) in
+        let tests = check-done (inField 16 pr) _ _ (check-done (senderInOrder (senderAt a g held)) _ _ e .1) in
         let near : distance 16 (a % 16) pr ≤ distance 16 (a % 16) (g % 16) = leb-true _ _ (check-done _ _ _ (tests .1) .0) in
-        inl (omega (arith, near, apart a g l h, distance-remainder 16 (lit< tt) a pr), simp (e, ← (reached a pr (ltb-true pr 16 (tests .0)))))
-    go (Refused why) e = inr (why, simp e)
+        inl (
+          omega (arith, near, apart a g l h, distance-remainder 16 (lit< tt) a pr),
+          pr-by carrier (senderAt a g held) pr ∙ simp (e, ← (reached a pr (ltb-true pr 16 (tests .0)))),
+        )
+    go (Refused why) e = inr (why, pr-by carrier (senderAt a g held) pr ∙ simp e)
 
 -- a PR whose true number t is between a and g is accepted
-pub acknowledge-taken : (a t g : ℕ) → a ≤ t → t ≤ g → g ≤ a + 15
-    → acknowledgeOf (senderAt a g) (t % 16) ≡ record { verdict = Done; next = senderAt t g }
-unfolding acknowledgeOf acknowledgeVerdict
-acknowledge-taken a t g l m h =
+pub pr-taken : (carrier : Carrier) (a t g : ℕ) (held : Bool) → a ≤ t → t ≤ g → g ≤ a + 15
+    → prOf carrier (senderAt a g held) (t % 16) ≡ record { verdict = Done; next = senderAt t g (markAfter carrier held) }
+unfolding acknowledgeVerdict
+pr-taken carrier a t g held l m h =
     let f : inField 16 (t % 16) ≡ true = lt-ltb (t % 16) 16 (mod-lt t (lit< tt)) in
     let near : leb (distance 16 (a % 16) (t % 16)) (distance 16 (a % 16) (g % 16)) ≡ true =
     ap₂ leb (apart a t l (omega arith)) (apart a g (omega arith) h) ∙ le-leb (t - a) (g - a) (omega arith) in
-    simp (sender-good a g, f, near)
+    pr-by carrier (senderAt a g held) (t % 16) ∙ simp (sender-good a g held, f, near)
 
 -- ---- the receiving end
 

@@ -2,18 +2,16 @@
 -- the true numbers of its history modulo 16; each call preserves that.
 -- Assumes nothing.
 use mathlib.Core.Path.{_≡_, refl, sym, ap, _∙_, subst}
-use mathlib.Core.Bool.{true}
+use mathlib.Core.Bool.{Bool, true, false}
 use mathlib.Core.Logic.{_⊎_, inl, inr}
 use mathlib.Core.List.{List, [], _∷_, _++_}
 use Prim.Native.Nat.{ℕ, suc, _+_, _%_, _≤_, zero-le}
 use native.Mathlib.Numerals.{add-one}
-use native.Mathlib.Decide.{decLt, decLe}
+use native.Mathlib.Decide.{decLt}
 use native.Mathlib.Omega.{arith}
 use lib.ListN.{length, length-append, List·getD-append}
 use lib.Seq.{getD-at}
 use Rattle.refusal.specs.declared.Refusal.{Refusal}
-use Rattle.refusal.specs.declared.Verdict.the-variants.{Done, Refused}
-use Rattle.sequence.specs.Modular.{distance}
 use Rattle.sequence.specs.Numbers.{packet}
 use Rattle.window.specs.declared.receiver.Receipt.the-variants.{Refused as NotTaken}
 use Rattle.window.specs.declared.sender.Sender.{Sender}
@@ -22,10 +20,10 @@ use Rattle.window.specs.declared.sender.Acknowledged.{Acknowledged}
 use Rattle.window.specs.declared.receiver.Receiver.{Receiver}
 use Rattle.window.specs.declared.receiver.Received.{Received}
 use Rattle.window.specs.declared.receiver.Told.{Told}
-use Rattle.window.specs.Sending.{freshSender, senderInOrder, sendOf, acknowledgeOf}
+use Rattle.window.specs.Sending.{freshSender, senderInOrder, sendOf}
 use Rattle.window.specs.Receiving.{freshReceiver, receiverInOrder, receiveOf, tellOf}
-use Rattle.window.specs.History.{Numbered, SenderCall, send, acknowledge, SenderHistory, noteGrant, notePr, senderStep, senderRun, senderHistory, SenderClaim, ReceiverCall, receive, tell, ReceiverHistory, noteReceipt, receiverStep, receiverRun, ReceiverClaim}
-use Rattle.window.proofs.Ends.{senderAt, sender-good, send-open, send-closed, acknowledge-cases, fresh-good, taken-good, tell-told, tell-good, receive-taken, receive-cases}
+use Rattle.window.specs.History.{Numbered, Carrier, prOf, SenderCall, send, takePr, SenderHistory, noteGrant, notePr, senderStep, senderRun, senderHistory, SenderClaim, ReceiverCall, receive, tell, ReceiverHistory, noteReceipt, receiverStep, receiverRun, ReceiverClaim}
+use Rattle.window.proofs.Ends.{senderAt, sender-good, SendCases, send-cases, markAfter, PrCases, pr-cases, fresh-good, taken-good, tell-told, tell-good, receive-taken, receive-cases}
 
 -- ---- lists that are numbered
 
@@ -44,46 +42,55 @@ numbered-more l n i h = elim (decLt i (length l)) [
 -- ---- the sending end
 
 record SenderKept (s : Sender) (granted : List ℕ) (acknowledged : ℕ) : Type 0 where
-  at : s ≡ senderAt acknowledged (length granted)
+  held : Bool
+  at : s ≡ senderAt acknowledged (length granted) held
   low : acknowledged ≤ length granted
   high : length granted ≤ acknowledged + 15
   numbered : Numbered granted
 
 send-keeps : (s : Sender) (l : List ℕ) (a : ℕ) → SenderKept s l a → SenderKept (sendOf s .next) (noteGrant (sendOf s .answer) l) a
-send-keeps s l a k = elim (decLe (length l) (a + 14)) [
-  | yes h ↦
-      subst (λ (r : Sent). SenderKept (r .next) (noteGrant (r .answer) l) a) (sym (ap sendOf (k .at) ∙ send-open a (length l) (k .low) h)) (record {
-        at = ap (senderAt a) (sym (length-more l (length l % 16)));
-        low = omega (arith, k .low, length-more l (length l % 16));
-        high = omega (arith, length-more l (length l % 16));
-        numbered = numbered-more l (k .numbered);
-      })
-  | no h ↦
-      subst (λ (r : Sent). SenderKept (r .next) (noteGrant (r .answer) l) a)
-      (sym (ap sendOf (k .at) ∙ send-closed a (length l) (omega (arith, k .high))))
-      (record { at = refl; low = k .low; high = k .high; numbered = k .numbered })
-]
+send-keeps s l a k = go (send-cases a (length l) (k .held) (k .low) (k .high))
+  where
+    Kept : Sent → Type 0
+    Kept r = SenderKept (r .next) (noteGrant (r .answer) l) a
 
-acknowledge-keeps : (s : Sender) (l : List ℕ) (a pr : ℕ) → SenderKept s l a
-    → SenderKept (acknowledgeOf s pr .next) l (notePr (acknowledgeOf s pr .verdict) pr a)
-acknowledge-keeps s l a pr k = go (acknowledge-cases a (length l) pr (k .low) (k .high))
+    go : SendCases a (length l) (k .held) → Kept (sendOf s)
+    go (inl w) =
+        subst Kept (sym (ap sendOf (k .at) ∙ w .1)) (record {
+          held = k .held;
+          at = ap (λ (n : ℕ). senderAt a n (k .held)) (sym (length-more l (length l % 16)));
+          low = omega (arith, k .low, length-more l (length l % 16));
+          high = omega (arith, w .0, length-more l (length l % 16));
+          numbered = numbered-more l (k .numbered);
+        })
+    go (inr w) =
+        subst Kept (sym (ap sendOf (k .at) ∙ w)) (record {
+          held = k .held;
+          at = refl;
+          low = k .low;
+          high = k .high;
+          numbered = k .numbered;
+        })
+
+pr-keeps : (carrier : Carrier) (s : Sender) (l : List ℕ) (a pr : ℕ) → SenderKept s l a
+    → SenderKept (prOf carrier s pr .next) l (notePr (prOf carrier s pr .verdict) pr a)
+pr-keeps carrier s l a pr k = go (pr-cases carrier a (length l) (k .held) pr (k .low) (k .high))
   where
     Kept : Acknowledged → Type 0
     Kept r = SenderKept (r .next) l (notePr (r .verdict) pr a)
 
-    go : ((a + distance 16 a pr ≤ length l)
-        × (acknowledgeOf (senderAt a (length l)) pr ≡ record { verdict = Done; next = senderAt (a + distance 16 a pr) (length l) }))
-        ⊎ ((why : Refusal) × (acknowledgeOf (senderAt a (length l)) pr ≡ record { verdict = Refused why; next = senderAt a (length l) }))
-        → Kept (acknowledgeOf s pr)
+    go : PrCases carrier a (length l) (k .held) pr → Kept (prOf carrier s pr)
     go (inl w) =
-        subst Kept (sym (ap (λ (t : Sender). acknowledgeOf t pr) (k .at) ∙ w .1)) (record {
+        subst Kept (sym (ap (λ (t : Sender). prOf carrier t pr) (k .at) ∙ w .1)) (record {
+          held = markAfter carrier (k .held);
           at = refl;
           low = w .0;
           high = omega (arith, k .high);
           numbered = k .numbered;
         })
     go (inr w) =
-        subst Kept (sym (ap (λ (t : Sender). acknowledgeOf t pr) (k .at) ∙ w .1)) (record {
+        subst Kept (sym (ap (λ (t : Sender). prOf carrier t pr) (k .at) ∙ w .1)) (record {
+          held = k .held;
           at = refl;
           low = k .low;
           high = k .high;
@@ -95,19 +102,20 @@ sender-keeps : (h : SenderHistory) (calls : List SenderCall) → SenderKept (h .
 unfolding senderRun
 sender-keeps h [] k = k
 sender-keeps h (send ∷ cs) k = sender-keeps (senderStep h send) cs (send-keeps (h .next) (h .granted) (h .acknowledged) k)
-sender-keeps h (acknowledge pr ∷ cs) k =
-    sender-keeps (senderStep h (acknowledge pr)) cs (acknowledge-keeps (h .next) (h .granted) (h .acknowledged) pr k)
+sender-keeps h (takePr carrier pr ∷ cs) k =
+    sender-keeps (senderStep h (takePr carrier pr)) cs (pr-keeps carrier (h .next) (h .granted) (h .acknowledged) pr k)
 
 pub sender-claim : (calls : List SenderCall) → SenderClaim calls
 sender-claim calls =
     let k = sender-keeps (record { next = freshSender; granted = []; acknowledged = 0 }) calls (record {
+      held = false;
       at = refl;
       low = zero-le;
       high = zero-le;
       numbered = λ i h. absurd (omega arith);
     }) in
     record {
-      in-order = ap senderInOrder (k .at) ∙ sender-good (senderHistory calls .acknowledged) (length (senderHistory calls .granted));
+      in-order = ap senderInOrder (k .at) ∙ sender-good (senderHistory calls .acknowledged) (length (senderHistory calls .granted)) (k .held);
       at-most-15 = k .high;
       none-ahead = k .low;
       numbered = k .numbered;

@@ -4,5 +4,6 @@ pub mod Numbers
 -- The proofs of the claims.
 pub mod Ends
 pub mod History
+pub mod Holding
 pub mod BothEnds
 pub mod Refusing

@@ -1,7 +1,8 @@
 -- All promises of a call from its verdict: what it returns, and the number and the value of the
 -- answer.
 -- Assumes nothing.
-use mathlib.Core.Path.{_≡_, refl}
+use mathlib.Core.Path.{_≡_, refl, ap, _∙_}
+use mathlib.Core.Bool.{Bool}
 use Prim.Native.Nat.{ℕ}
 use Rattle.refusal.specs.declared.Verdict.{Verdict}
 use Rattle.refusal.specs.declared.Verdict.the-variants.{Done, Refused}
@@ -12,7 +13,7 @@ use Rattle.window.specs.declared.sender.Acknowledged.{Acknowledged}
 use Rattle.window.specs.declared.receiver.Receiver.{Receiver}
 use Rattle.window.specs.declared.receiver.Received.{Received}
 use Rattle.window.specs.declared.receiver.Told.{Told}
-use Rattle.window.specs.Sending.{grantNumber, grantPs, sendVerdict, sendBy, sendOf, acknowledgeVerdict, acknowledgeBy, acknowledgeOf}
+use Rattle.window.specs.Sending.{grantNumber, grantPs, sendVerdict, sendBy, sendOf, acknowledgeVerdict, acknowledgeBy}
 use Rattle.window.specs.Receiving.{receiptNumber, receiptDue, receiveVerdict, dueAfter, receiveBy, receiveOf, tellingNumber, tellingPr, tellVerdict, tellBy, tellOf}
 
 pub send-numbers : (s : Sender) (v : Verdict) (r : Sent) → sendVerdict s ≡ v → r ≡ sendBy v s
@@ -21,11 +22,14 @@ unfolding sendOf
 send-numbers s Done r e m = rw (e, m) (refl, (refl, refl))
 send-numbers s (Refused why) r e m = rw (e, m) (refl, (refl, refl))
 
-pub acknowledge-numbers : (s : Sender) (pr : ℕ) (v : Verdict) (r : Acknowledged) → acknowledgeVerdict s pr ≡ v → r ≡ acknowledgeBy v s pr
-    → (r ≡ acknowledgeOf s pr) × (verdictNumber (r .verdict) ≡ verdictNumber (acknowledgeVerdict s pr))
-unfolding acknowledgeOf
-acknowledge-numbers s pr Done r e m = rw (e, m) (refl, refl)
-acknowledge-numbers s pr (Refused why) r e m = rw (e, m) (refl, refl)
+-- of a received PR, whatever the mark is afterwards
+pub pr-numbers : (s : Sender) (pr : ℕ) (held : Bool) (r : Acknowledged) → r ≡ acknowledgeBy (acknowledgeVerdict s pr) s pr held
+    → (r ≡ acknowledgeBy (acknowledgeVerdict s pr) s pr held) × (verdictNumber (r .verdict) ≡ verdictNumber (acknowledgeVerdict s pr))
+pr-numbers s pr held r m = (m, ap (λ (x : Acknowledged). verdictNumber (x .verdict)) m ∙ told (acknowledgeVerdict s pr))
+  where
+    told : (v : Verdict) → verdictNumber (acknowledgeBy v s pr held .verdict) ≡ verdictNumber v
+    told Done = refl
+    told (Refused why) = refl
 
 pub receive-numbers : (r : Receiver) (ps : ℕ) (v : Verdict) (a : Received) → receiveVerdict r ps ≡ v → a ≡ receiveBy v r
     → (a ≡ receiveOf r ps) × ((receiptNumber (a .answer) ≡ verdictNumber (receiveVerdict r ps)) × (receiptDue (a .answer) ≡ flagBy (receiveVerdict r ps) (dueAfter r)))

@@ -11,9 +11,14 @@ use Rattle.window.specs.declared.sender.Sender.{Sender}
 use Rattle.window.specs.declared.receiver.Receiver.{Receiver}
 use Rattle.window.specs.declared.receiver.Telling.{Telling}
 use Rattle.window.specs.declared.receiver.Telling.the-variants.{Tell, Refused as NotTold}
-use Rattle.window.specs.Sending.{freshSender, sendOf, acknowledgeOf}
+use Rattle.window.specs.Sending.{freshSender, sendOf}
 use Rattle.window.specs.Receiving.{freshReceiver, receiveOf, receiptNumber, tellOf}
-use Rattle.window.specs.History.{noteGrant}
+use Rattle.window.specs.History.{Carrier, prOf, noteGrant}
+
+-- a PR on the way back, and the packet that carries it
+pub record OnTheWay : Type 0 where
+  pub carrier : Carrier
+  pub pr : ℕ
 
 -- one direction of a circuit: its two ends; `packets`, the PS of the packets sent and not yet
 -- delivered, the first one sent first; `tellings`, the same of the PR on the way back; and
@@ -22,23 +27,23 @@ pub record Flow : Type 0 where
   pub sender : Sender
   pub receiver : Receiver
   pub packets : List ℕ
-  pub tellings : List ℕ
+  pub tellings : List OnTheWay
   pub numbers : List ℕ
 
 -- what may happen, in any order: the sending end is asked for a PS, and a packet is sent with it if
 -- one is granted (`grant`); the first packet on the way is delivered to the receiving end
--- (`deliver`); the receiving end tells PR, which is sent back (`tell`); the first PR on the way is
--- delivered to the sending end (`deliverPr`)
+-- (`deliver`); the receiving end tells PR, which is sent back in DATA, RR, RNR or REJECT (`tell`);
+-- the first PR on the way is delivered to the sending end (`deliverPr`)
 pub data FlowEvent : Type 0 where
   grant : FlowEvent
   deliver : FlowEvent
-  tell : FlowEvent
+  tell : Carrier → FlowEvent
   deliverPr : FlowEvent
 
 -- a PR that is told is sent after those on the way
-abbrev pub noteTelling : Telling → List ℕ → List ℕ
-noteTelling (Tell pr) tellings = tellings ++ (pr .0 ∷ [])
-noteTelling (NotTold why) tellings = tellings
+abbrev pub noteTelling : Telling → Carrier → List OnTheWay → List OnTheWay
+noteTelling (Tell pr) carrier tellings = tellings ++ (record { carrier = carrier; pr = pr .0 } ∷ [])
+noteTelling (NotTold why) carrier tellings = tellings
 
 -- the first of these packets on the way is delivered; if there is none, nothing happens
 abbrev pub delivered : Flow → List ℕ → Flow
@@ -52,14 +57,14 @@ delivered f (ps ∷ rest) = record {
 }
 
 -- the same of the PR on the way back
-abbrev pub deliveredPr : Flow → List ℕ → Flow
+abbrev pub deliveredPr : Flow → List OnTheWay → Flow
 deliveredPr f [] = f
-deliveredPr f (pr ∷ rest) = record {
-  sender = acknowledgeOf (f .sender) pr .next;
+deliveredPr f (t ∷ rest) = record {
+  sender = prOf (t .carrier) (f .sender) (t .pr) .next;
   receiver = f .receiver;
   packets = f .packets;
   tellings = rest;
-  numbers = f .numbers ++ (verdictNumber (acknowledgeOf (f .sender) pr .verdict) ∷ []);
+  numbers = f .numbers ++ (verdictNumber (prOf (t .carrier) (f .sender) (t .pr) .verdict) ∷ []);
 }
 
 -- one event
@@ -72,11 +77,11 @@ flowStep f grant = record {
   numbers = f .numbers;
 }
 flowStep f deliver = delivered f (f .packets)
-flowStep f tell = record {
+flowStep f (tell carrier) = record {
   sender = f .sender;
   receiver = tellOf (f .receiver) .next;
   packets = f .packets;
-  tellings = noteTelling (tellOf (f .receiver) .answer) (f .tellings);
+  tellings = noteTelling (tellOf (f .receiver) .answer) carrier (f .tellings);
   numbers = f .numbers;
 }
 flowStep f deliverPr = deliveredPr f (f .tellings)

@@ -1,8 +1,9 @@
 -- The claims about one end over any list of calls, accepted or refused, that starts from a fresh
--- end: document 01, "The two counters". proofs/History.antt proves them.
+-- end: document 01, "The two counters"; and about the mark of an end held off: document 02, Q-4.
+-- proofs/History.antt and, for the mark, proofs/Holding.antt prove them.
 -- Assumes nothing.
 use mathlib.Core.Path.{_≡_}
-use mathlib.Core.Bool.{true}
+use mathlib.Core.Bool.{true, false}
 use mathlib.Core.List.{List, [], _∷_, _++_}
 use Prim.Native.Nat.{ℕ, _+_, _%_, _≤_, _<_}
 use lib.ListN.{length, getD}
@@ -15,7 +16,8 @@ use Rattle.window.specs.declared.sender.Grant.the-variants.{Granted, Ref
 use Rattle.window.specs.declared.receiver.Receiver.{Receiver}
 use Rattle.window.specs.declared.receiver.Receipt.{Receipt}
 use Rattle.window.specs.declared.receiver.Receipt.the-variants.{Taken, Refused as NotTaken}
-use Rattle.window.specs.Sending.{freshSender, senderInOrder, sendOf, acknowledgeOf}
+use Rattle.window.specs.declared.sender.Acknowledged.{Acknowledged}
+use Rattle.window.specs.Sending.{freshSender, senderInOrder, sendOf, acknowledgeOf, readyOf, notReadyOf, rejectOf}
 use Rattle.window.specs.Receiving.{freshReceiver, receiverInOrder, receiveOf, tellOf}
 
 -- each number in the list is its index modulo 16
@@ -24,10 +26,24 @@ Numbered numbers = (i : ℕ) → i < length numbers → getD numbers i 0 ≡ i %
 
 -- ---- the sending end
 
--- a call: asking for a PS, or taking a received PR
+-- the packet that carries a received PR: DATA, RR, RNR or REJECT
+pub data Carrier : Type 0 where
+  byData : Carrier
+  ready : Carrier
+  notReady : Carrier
+  reject : Carrier
+
+-- what the call for that packet returns
+abbrev pub prOf : Carrier → Sender → ℕ → Acknowledged
+prOf byData s pr = acknowledgeOf s pr
+prOf ready s pr = readyOf s pr
+prOf notReady s pr = notReadyOf s pr
+prOf reject s pr = rejectOf s pr
+
+-- a call: asking for a PS, or taking a PR that such a packet carries
 pub data SenderCall : Type 0 where
   send : SenderCall
-  acknowledge : ℕ → SenderCall
+  takePr : Carrier → ℕ → SenderCall
 
 -- what there is after some calls: the end, the PS granted so far in their order, and the number of
 -- packets acknowledged
@@ -54,10 +70,10 @@ senderStep h send = record {
   granted = noteGrant (sendOf (h .next) .answer) (h .granted);
   acknowledged = h .acknowledged;
 }
-senderStep h (acknowledge pr) = record {
-  next = acknowledgeOf (h .next) pr .next;
+senderStep h (takePr carrier pr) = record {
+  next = prOf carrier (h .next) pr .next;
   granted = h .granted;
-  acknowledged = notePr (acknowledgeOf (h .next) pr .verdict) pr (h .acknowledged);
+  acknowledged = notePr (prOf carrier (h .next) pr .verdict) pr (h .acknowledged);
 }
 
 -- a list of calls
@@ -76,6 +92,34 @@ pub record SenderClaim (calls : List SenderCall) : Type 0 where
   pub at-most-15 : length (senderHistory calls .granted) ≤ senderHistory calls .acknowledged + 15
   pub none-ahead : senderHistory calls .acknowledged ≤ length (senderHistory calls .granted)
   pub numbered : Numbered (senderHistory calls .granted)
+
+-- ---- the sending end, held off
+
+-- the call lifts the mark: it is an RR or a REJECT, and its PR is accepted
+abbrev pub Lifts : SenderHistory → SenderCall → Type 0
+Lifts h send = ⊥
+Lifts h (takePr byData pr) = ⊥
+Lifts h (takePr ready pr) = readyOf (h .next) pr .verdict ≡ Done
+Lifts h (takePr notReady pr) = ⊥
+Lifts h (takePr reject pr) = rejectOf (h .next) pr .verdict ≡ Done
+
+-- none of these calls does
+abbrev pub NoneLifts : SenderHistory → List SenderCall → Type 0
+NoneLifts h [] = Unit {0}
+NoneLifts h (c ∷ cs) = (Lifts h c → ⊥) × NoneLifts (senderStep h c) cs
+
+-- Of any end, damaged or not, and any calls from there.
+pub record HoldClaim : Type 0 where
+  -- between an accepted RNR and the next accepted RR or REJECT nothing is granted
+  pub nothing-while-held : (h : SenderHistory) (pr : ℕ) (calls : List SenderCall) → notReadyOf (h .next) pr .verdict ≡ Done
+      → NoneLifts (senderStep h (takePr notReady pr)) calls → senderRun h (takePr notReady pr ∷ calls) .granted ≡ h .granted
+  -- an accepted RR or REJECT lifts the mark, so that the window alone decides from there
+  pub lifted : (h : SenderHistory) (c : SenderCall) → Lifts h c → senderStep h c .next .held ≡ false
+  -- a PR that DATA carries leaves the mark, and so does sending
+  pub left-by-data : (s : Sender) (pr : ℕ) → acknowledgeOf s pr .next .held ≡ s .held
+  pub left-by-sending : (s : Sender) → sendOf s .next .held ≡ s .held
+  -- no PR moves the next PS, that of a REJECT neither
+  pub next-left : (carrier : Carrier) (s : Sender) (pr : ℕ) → prOf carrier s pr .next .ps ≡ s .ps
 
 -- ---- the receiving end
 

@@ -1,7 +1,9 @@
 -- The sending end of the flow window: document 01, "The two counters", second paragraph, and good
--- order from the third. The field `edge` is the paper's lower edge, `ps` its next PS.
+-- order from the third; and document 02, Q-4: "RNR closes the sending end of its circuit until an
+-- RR or REJECT comes". The field `edge` is the paper's lower edge, `ps` its next PS, `held` the
+-- mark that an RNR holds the end off.
 -- Assumes nothing.
-use mathlib.Core.Bool.{Bool, _&&_}
+use mathlib.Core.Bool.{Bool, true, false, not, _&&_}
 use Prim.Native.Nat.{ℕ}
 use lib.Dec.{leb}
 use Rattle.refusal.specs.declared.Refusal.the-variants.{OutOfRange, WindowClosed, NotInOrder, NeverSent}
@@ -16,11 +18,11 @@ use Rattle.window.specs.declared.sender.Grant.the-variants.{Granted, Ref
 use Rattle.window.specs.declared.sender.Sent.{Sent}
 use Rattle.window.specs.declared.sender.Acknowledged.{Acknowledged}
 
--- "Fresh: both 0."
+-- "Fresh: both 0", and not held off
 abbrev pub freshSender : Sender
-freshSender = record { edge = packet 0; ps = packet 0 }
+freshSender = record { edge = packet 0; ps = packet 0; held = false }
 
--- "Good order: edge, next .. at most 15"
+-- "Good order: edge, next .. at most 15". It says nothing of the mark
 unfoldable pub senderInOrder : Sender → Bool
 senderInOrder s = leb (s .edge .0) 15 && leb (s .ps .0) 15
 
@@ -37,17 +39,17 @@ grantPs (Granted ps) = ps .0
 grantPs (NotGranted why) = 0
 
 -- the checks in their order: 14, and then 9: "Sending is permitted exactly if the distance from
--- edge to next is at most 14"
+-- edge to next is at most 14", and "9 also while a circuit is held off by RNR"
 unfoldable pub sendVerdict : Sender → Verdict
 sendVerdict s =
     check (senderInOrder s) NotInOrder
-    (check (leb (distance 16 (s .edge .0) (s .ps .0)) 14) WindowClosed
+    (check (leb (distance 16 (s .edge .0) (s .ps .0)) 14 && not (s .held)) WindowClosed
     Done)
 
 -- the answer and the next state, by the verdict. Permitted: "it answers next, which then goes up by
 -- one modulo 16". Refused: "the same state".
 abbrev pub sendBy : Verdict → Sender → Sent
-sendBy Done s = record { answer = Granted (s .ps); next = record { edge = s .edge; ps = packet (next 16 (s .ps .0)) } }
+sendBy Done s = record { answer = Granted (s .ps); next = record { edge = s .edge; ps = packet (next 16 (s .ps .0)); held = s .held } }
 sendBy (Refused why) s = record { answer = NotGranted why; next = s }
 
 -- what `send` returns for the end s
@@ -65,12 +67,28 @@ acknowledgeVerdict s pr =
     (check (leb (distance 16 (s .edge .0) pr) (distance 16 (s .edge .0) (s .ps .0))) NeverSent
     Done))
 
--- the answer and the next state, by the verdict. Accepted: "it becomes the edge". Refused: "the
--- same state".
-abbrev pub acknowledgeBy : Verdict → Sender → ℕ → Acknowledged
-acknowledgeBy Done s pr = record { verdict = Done; next = record { edge = packet pr; ps = s .ps } }
-acknowledgeBy (Refused why) s pr = record { verdict = Refused why; next = s }
+-- the answer and the next state, by the verdict; `held` is the mark afterwards. Accepted: "it
+-- becomes the edge". Refused: "the same state", so that the mark stays as it is: "a refused one
+-- changes nothing".
+abbrev pub acknowledgeBy : Verdict → Sender → ℕ → Bool → Acknowledged
+acknowledgeBy Done s pr held = record { verdict = Done; next = record { edge = packet pr; ps = s .ps; held = held } }
+acknowledgeBy (Refused why) s pr held = record { verdict = Refused why; next = s }
 
--- what `acknowledge` returns for the end s and a received PR
+-- what `acknowledge` returns for the end s and a PR that DATA carries: the mark stays as it is
 unfoldable pub acknowledgeOf : Sender → ℕ → Acknowledged
-acknowledgeOf s pr = acknowledgeBy (acknowledgeVerdict s pr) s pr
+acknowledgeOf s pr = acknowledgeBy (acknowledgeVerdict s pr) s pr (s .held)
+
+-- ---- RR, RNR and REJECT: "each first gives its PR"
+
+-- what `ready` returns for the PR of an RR: the mark is lifted
+unfoldable pub readyOf : Sender → ℕ → Acknowledged
+readyOf s pr = acknowledgeBy (acknowledgeVerdict s pr) s pr false
+
+-- what `not_ready` returns for the PR of an RNR: the mark is set
+unfoldable pub notReadyOf : Sender → ℕ → Acknowledged
+notReadyOf s pr = acknowledgeBy (acknowledgeVerdict s pr) s pr true
+
+-- what `reject` returns for the PR of a REJECT: the mark is lifted, and "REJECT leaves next as it
+-- is (house)"
+unfoldable pub rejectOf : Sender → ℕ → Acknowledged
+rejectOf s pr = acknowledgeBy (acknowledgeVerdict s pr) s pr false

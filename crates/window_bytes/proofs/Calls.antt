@@ -4,11 +4,11 @@
 -- Assumes nothing.
 use mathlib.Core.Path.{_≡_, refl, sym, ap, _∙_}
 use mathlib.Core.Bool.{Bool, true}
-use mathlib.Core.List.{List, [], _∷_}
+use mathlib.Core.List.{List}
 use mathlib.Core.Logic.{_≢_}
 use Prim.Native.Nat.{ℕ, _+_, _*_}
 use native.Mathlib.Omega.{arith}
-use lib.ListN.{length, set}
+use lib.ListN.{length, getD, set}
 use Rattle.refusal.specs.declared.Refusal.{Refusal}
 use Rattle.refusal.specs.declared.Verdict.{Verdict}
 use Rattle.refusal.specs.declared.Verdict.the-variants.{Done, Refused}
@@ -19,39 +19,42 @@ use Rattle.window.specs.declared.sender.Sender.{Sender}
 use Rattle.window.specs.declared.sender.Grant.the-variants.{Granted, Refused as NotGranted}
 use Rattle.window.specs.declared.sender.Sent.{Sent}
 use Rattle.window.specs.declared.sender.Acknowledged.{Acknowledged}
-use Rattle.window.specs.Sending.{grantNumber, sendVerdict, sendBy, sendOf, acknowledgeVerdict, acknowledgeBy, acknowledgeOf}
+use Rattle.window.specs.Sending.{grantNumber, sendVerdict, sendBy, sendOf}
+use Rattle.window.specs.History.{Carrier, prOf}
 use Rattle.window.specs.declared.receiver.Receiver.{Receiver}
 use Rattle.window.specs.declared.receiver.Receipt.the-variants.{Taken, Refused as NotTaken}
 use Rattle.window.specs.declared.receiver.Received.{Received}
 use Rattle.window.specs.declared.receiver.Telling.the-variants.{Tell, Refused as NotTold}
 use Rattle.window.specs.declared.receiver.Told.{Told}
 use Rattle.window.specs.Receiving.{receiptNumber, receiveOf, tellingNumber, tellVerdict, tellBy, tellOf}
+use Rattle.window.proofs.Holding.{hold-claim}
 use Rattle.window.proofs.Refusing.{refusals-change-nothing}
 use Rattle.little.specs.Little.{flag}
-use Rattle.window_bytes.specs.Stored.{senderIn, senderBytes, grantAnswer, sendAnswer, sendBytes, acknowledgeAnswer, acknowledgeBytes, isReceiver, receiverIn, receiverBytes, receiptAnswer, receiveAnswer, receiveBytes, tellingAnswer, tellAnswer, tellBytes}
-use Rattle.window_bytes.proofs.Stored.{edge-written, next-written, is-sender, sender-bytes-back, count-written, receiver-bytes-back}
+use Rattle.window_bytes.specs.Stored.{isSender, senderIn, senderBytes, grantAnswer, sendAnswer, sendBytes, prAnswer, prBytes, isReceiver, receiverIn, receiverBytes, receiptAnswer, receiveAnswer, receiveBytes, tellingAnswer, tellAnswer, tellBytes}
+use Rattle.window_bytes.proofs.Stored.{sender-length, next-written, sender-bytes-back, count-written, receiver-bytes-back}
 
 -- a refusal's number is not 0
-not-done : (why : Refusal) (n : ℕ) → n ≡ numberOf why → n ≢ 0
+pub not-done : (why : Refusal) (n : ℕ) → n ≡ numberOf why → n ≢ 0
 not-done why n e z = absurd (omega (arith, number-range why .0))
 
 -- ---- asking for a PS
 
--- `send` never changes the edge
-edge-kept : (v : Verdict) (s : Sender) → s .edge ≡ sendBy v s .next .edge
-edge-kept Done s = refl
-edge-kept (Refused why) s = refl
+-- `send` changes the next PS only
+next-only : (v : Verdict) (s : Sender) → _≡_ {A = Sender} (record { edge = s .edge; ps = sendBy v s .next .ps; held = s .held }) (sendBy v s .next)
+next-only Done s = refl
+next-only (Refused why) s = refl
 
-module _ (b : List ℕ) (h : length b ≡ 2) (a : Sent) (e : a ≡ sendOf (senderIn b)) where
+module _ (b : List ℕ) (h : isSender b ≡ true) (a : Sent) (e : a ≡ sendOf (senderIn b)) where
   pub granted : (ps : PacketNumber) → a .answer ≡ Granted ps → (256 * ps .0 ≡ sendAnswer b) × (set b 1 (a .next .ps .0) ≡ sendBytes b)
   unfolding sendOf sendAnswer sendBytes
   granted ps g =
       let z : 256 * ps .0 ≡ 0 + 256 * ps .0 = omega arith in
-      rw (is-sender b h) (
+      let after : ℕ = sendOf (senderIn b) .next .ps .0 in
+      rw h (
         z ∙ ap grantAnswer (sym g) ∙ ap (λ (x : Sent). grantAnswer (x .answer)) e,
-        next-written b (a .next .ps .0) h
-            ∙ ap (λ (x : Sent). senderIn b .edge .0 ∷ x .next .ps .0 ∷ []) e
-            ∙ ap (λ (x : PacketNumber). x .0 ∷ sendOf (senderIn b) .next .ps .0 ∷ []) (edge-kept (sendVerdict (senderIn b)) (senderIn b)),
+        ap (λ (x : Sent). set b 1 (x .next .ps .0)) e
+            ∙ next-written b after h
+            ∙ ap senderBytes (next-only (sendVerdict (senderIn b)) (senderIn b)),
       )
 
   pub not-granted : (why : Refusal) → a .answer ≡ NotGranted why → (n : ℕ) → n ≡ numberOf why → (n ≡ sendAnswer b) × (b ≡ sendBytes b)
@@ -59,39 +62,29 @@ module _ (b : List ℕ) (h : length b ≡ 2) (a : Sent) (e : a ≡ sendOf (sende
   not-granted why g n m =
       let z : numberOf why ≡ numberOf why + 256 * 0 = omega arith in
       let refused : grantNumber (sendOf (senderIn b) .answer) ≢ 0 = not-done why _ (ap (λ (x : Sent). grantNumber (x .answer)) (sym e) ∙ ap grantNumber g) in
-      rw (is-sender b h) (
+      rw h (
         m ∙ z ∙ ap grantAnswer (sym g) ∙ ap (λ (x : Sent). grantAnswer (x .answer)) e,
-        sym (ap senderBytes (refusals-change-nothing .send (senderIn b) refused .1) ∙ sender-bytes-back b (is-sender b h)),
+        sym (ap senderBytes (refusals-change-nothing .send (senderIn b) refused .1) ∙ sender-bytes-back b h),
       )
 
--- ---- a received PR
+-- ---- a received PR, whichever packet carries it
 
--- `acknowledge` never changes the next PS
-next-kept : (v : Verdict) (s : Sender) (pr : ℕ) → s .ps ≡ acknowledgeBy v s pr .next .ps
-next-kept Done s pr = refl
-next-kept (Refused why) s pr = refl
+module _ (carrier : Carrier) (b : List ℕ) (pr : ℕ) (h : isSender b ≡ true) (a : Acknowledged) (e : a ≡ prOf carrier (senderIn b) pr) where
+  -- what `put_pr` asks for: no PR changes the next PS, and a refused one changes nothing
+  pub pr-asks : (length b ≡ 3) × ((a .next .ps .0 ≡ getD b 1 0) × (verdictNumber (a .verdict) ≢ 0 → senderBytes (a .next) ≡ b))
+  pr-asks = rw e (
+    sender-length b h,
+    (
+      ap (λ (x : PacketNumber). x .0) (hold-claim .next-left carrier (senderIn b) pr),
+      λ refused. ap senderBytes (refusals-change-nothing .take-pr carrier (senderIn b) pr refused) ∙ sender-bytes-back b h,
+    ),
+  )
 
-module _ (b : List ℕ) (pr : ℕ) (h : length b ≡ 2) (a : Acknowledged) (e : a ≡ acknowledgeOf (senderIn b) pr) where
-  pub acknowledged : a .verdict ≡ Done → (0 ≡ acknowledgeAnswer b pr) × (set b 0 (a .next .edge .0) ≡ acknowledgeBytes b pr)
-  unfolding acknowledgeOf acknowledgeAnswer acknowledgeBytes
-  acknowledged g =
-      let end : Sender = acknowledgeOf (senderIn b) pr .next in
-      rw (is-sender b h) (
-        ap verdictNumber (sym g) ∙ ap (λ (x : Acknowledged). verdictNumber (x .verdict)) e,
-        edge-written b (a .next .edge .0) h
-            ∙ ap (λ (x : Acknowledged). x .next .edge .0 ∷ senderIn b .ps .0 ∷ []) e
-            ∙ ap (λ (x : PacketNumber). end .edge .0 ∷ x .0 ∷ []) (next-kept (acknowledgeVerdict (senderIn b) pr) (senderIn b) pr),
-      )
-
-  pub not-acknowledged : (why : Refusal) → a .verdict ≡ Refused why → (n : ℕ) → n ≡ numberOf why
-      → (n ≡ acknowledgeAnswer b pr) × (b ≡ acknowledgeBytes b pr)
-  unfolding acknowledgeAnswer acknowledgeBytes
-  not-acknowledged why g n m =
-      let number : numberOf why ≡ verdictNumber (acknowledgeOf (senderIn b) pr .verdict) = ap verdictNumber (sym g) ∙ ap (λ (x : Acknowledged). verdictNumber (x .verdict)) e in
-      rw (is-sender b h) (
-        m ∙ number,
-        sym (ap senderBytes (refusals-change-nothing .acknowledge (senderIn b) pr (not-done why _ (sym number))) ∙ sender-bytes-back b (is-sender b h)),
-      )
+  -- what it answers and writes is what the call promises
+  pub pr-told : (n : ℕ) → n ≡ verdictNumber (a .verdict) → (bytes : List ℕ) → bytes ≡ senderBytes (a .next)
+      → (n ≡ prAnswer carrier b pr) × (bytes ≡ prBytes carrier b pr)
+  unfolding prAnswer prBytes
+  pr-told n m bytes p = rw h (m ∙ ap (λ (x : Acknowledged). verdictNumber (x .verdict)) e, p ∙ ap (λ (x : Acknowledged). senderBytes (x .next)) e)
 
 -- ---- a received PS
 

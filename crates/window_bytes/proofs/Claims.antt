@@ -16,7 +16,8 @@ use Rattle.refusal.specs.Numbers.{verdictNumber}
 use Rattle.refusal.proofs.Numbers.{number-range}
 use Rattle.window.specs.declared.sender.Grant.{Grant}
 use Rattle.window.specs.declared.sender.Grant.the-variants.{Granted, Refused as NotGranted}
-use Rattle.window.specs.Sending.{grantNumber, grantPs, sendOf, acknowledgeOf}
+use Rattle.window.specs.Sending.{grantNumber, grantPs, sendOf}
+use Rattle.window.specs.History.{Carrier, prOf}
 use Rattle.window.specs.declared.receiver.Receipt.{Receipt}
 use Rattle.window.specs.declared.receiver.Receipt.the-variants.{Taken, Refused as NotTaken}
 use Rattle.window.specs.declared.receiver.Telling.{Telling}
@@ -24,14 +25,14 @@ use Rattle.window.specs.declared.receiver.Telling.the-variants.{Tell, Refused a
 use Rattle.window.specs.Receiving.{receiptNumber, receiptDue, receiveOf, tellingNumber, tellingPr, tellOf}
 use Rattle.window.proofs.Refusing.{refusals-change-nothing as ends-unchanged}
 use Rattle.little.specs.Little.{flag}
-use Rattle.window_bytes.specs.Stored.{answerWith, isSender, senderIn, senderBytes, grantAnswer, isReceiver, receiverIn, receiverBytes, receiptAnswer, tellingAnswer, freshSenderAnswer, freshSenderBytes, sendAnswer, sendBytes, acknowledgeAnswer, acknowledgeBytes, freshReceiverAnswer, freshReceiverBytes, receiveAnswer, receiveBytes, tellAnswer, tellBytes}
+use Rattle.window_bytes.specs.Stored.{answerWith, isSender, senderIn, senderBytes, grantAnswer, isReceiver, receiverIn, receiverBytes, receiptAnswer, tellingAnswer, freshSenderAnswer, freshSenderBytes, sendAnswer, sendBytes, prAnswer, prBytes, freshReceiverAnswer, freshReceiverBytes, receiveAnswer, receiveBytes, tellAnswer, tellBytes}
 use Rattle.window_bytes.specs.Claims.{RoundTrips, Unchanged, RefusalsChangeNothing}
-use Rattle.window_bytes.proofs.Stored.{sender-encoded, sender-bytes-back, receiver-encoded, receiver-back, receiver-bytes-back}
+use Rattle.window_bytes.proofs.Stored.{sender-encoded, sender-back, sender-bytes-back, receiver-encoded, receiver-back, receiver-bytes-back}
 
 pub round-trips : RoundTrips
 round-trips = record {
   sender-encoded = sender-encoded;
-  sender-back = λ s. refl;
+  sender-back = sender-back;
   sender-bytes-back = sender-bytes-back;
   receiver-encoded = receiver-encoded;
   receiver-back = receiver-back;
@@ -81,15 +82,15 @@ send b =
     unchanged (grantNumber (a .answer)) (grantPs (a .answer)) (senderBytes (a .next)) b (grant-small (a .answer)) (λ z.
     let k = ends-unchanged .send (senderIn b) z in (k .0, ap senderBytes (k .1) ∙ sender-bytes-back b e)))
 
-acknowledge : (b : List ℕ) (pr : ℕ) → Unchanged (acknowledgeAnswer b pr) (acknowledgeBytes b pr) b
-unfolding acknowledgeAnswer acknowledgeBytes
-acknowledge b pr =
-    let a = acknowledgeOf (senderIn b) pr in
+take-pr : (carrier : Carrier) (b : List ℕ) (pr : ℕ) → Unchanged (prAnswer carrier b pr) (prBytes carrier b pr) b
+unfolding prAnswer prBytes
+take-pr carrier b pr =
+    let a = prOf carrier (senderIn b) pr in
     let none : answerWith (verdictNumber (a .verdict)) 0 ≡ verdictNumber (a .verdict) = omega arith in
     tested (isSender b) (verdictNumber (a .verdict)) (senderBytes (a .next)) b (λ e.
     subst (λ (n : ℕ). Unchanged n (senderBytes (a .next)) b) none
     (unchanged (verdictNumber (a .verdict)) 0 (senderBytes (a .next)) b (verdict-small (a .verdict)) (λ z.
-    (refl, ap senderBytes (ends-unchanged .acknowledge (senderIn b) pr z) ∙ sender-bytes-back b e))))
+    (refl, ap senderBytes (ends-unchanged .take-pr carrier (senderIn b) pr z) ∙ sender-bytes-back b e))))
 
 receive : (b : List ℕ) (ps : ℕ) → Unchanged (receiveAnswer b ps) (receiveBytes b ps) b
 unfolding receiveAnswer receiveBytes
@@ -110,9 +111,9 @@ tell b =
 pub refusals-change-nothing : RefusalsChangeNothing
 unfolding freshSenderAnswer freshSenderBytes freshReceiverAnswer freshReceiverBytes
 refusals-change-nothing = record {
-  sender-fresh = λ b. fresh (isSender b) _ b;
+  sender-fresh = λ b. fresh (eqb (length b) 3) _ b;
   send = send;
-  acknowledge = acknowledge;
+  take-pr = take-pr;
   receiver-fresh = λ b. fresh (eqb (length b) 3) _ b;
   receive = receive;
   tell = tell;

@@ -8,7 +8,8 @@ use mathlib.Core.Logic.{_≢_}
 use Prim.Native.Nat.{ℕ, _/_, _%_}
 use Rattle.window.specs.declared.sender.Sender.{Sender}
 use Rattle.window.specs.declared.receiver.Receiver.{Receiver}
-use Rattle.window_bytes.specs.Stored.{isSender, senderIn, senderBytes, isReceiver, receiverIn, receiverBytes, freshSenderAnswer, freshSenderBytes, sendAnswer, sendBytes, acknowledgeAnswer, acknowledgeBytes, freshReceiverAnswer, freshReceiverBytes, receiveAnswer, receiveBytes, tellAnswer, tellBytes}
+use Rattle.window.specs.History.{Carrier}
+use Rattle.window_bytes.specs.Stored.{isSender, senderIn, senderBytes, isReceiver, receiverIn, receiverBytes, freshSenderAnswer, freshSenderBytes, sendAnswer, sendBytes, prAnswer, prBytes, freshReceiverAnswer, freshReceiverBytes, receiveAnswer, receiveBytes, tellAnswer, tellBytes}
 
 -- the bytes of an end encode that end (`..-encoded`, `..-back`), and bytes that encode an end are
 -- the bytes of that end (`..-bytes-back`)
@@ -30,7 +31,7 @@ Unchanged answer after before = answer % 256 ≢ 0 → (answer / 256 ≡ 0) × (
 pub record RefusalsChangeNothing : Type 0 where
   pub sender-fresh : (b : List ℕ) → Unchanged (freshSenderAnswer b) (freshSenderBytes b) b
   pub send : (b : List ℕ) → Unchanged (sendAnswer b) (sendBytes b) b
-  pub acknowledge : (b : List ℕ) (pr : ℕ) → Unchanged (acknowledgeAnswer b pr) (acknowledgeBytes b pr) b
+  pub take-pr : (carrier : Carrier) (b : List ℕ) (pr : ℕ) → Unchanged (prAnswer carrier b pr) (prBytes carrier b pr) b
   pub receiver-fresh : (b : List ℕ) → Unchanged (freshReceiverAnswer b) (freshReceiverBytes b) b
   pub receive : (b : List ℕ) (ps : ℕ) → Unchanged (receiveAnswer b ps) (receiveBytes b ps) b
   pub tell : (b : List ℕ) → Unchanged (tellAnswer b) (tellBytes b) b

@@ -14,7 +14,8 @@ use Rattle.little.specs.Little.{flag}
 use Rattle.sequence.specs.Numbers.{packet}
 use Rattle.window.specs.declared.sender.Sender.{Sender}
 use Rattle.window.specs.declared.sender.Grant.{Grant}
-use Rattle.window.specs.Sending.{freshSender, senderInOrder, grantNumber, grantPs, sendOf, acknowledgeOf}
+use Rattle.window.specs.Sending.{freshSender, senderInOrder, grantNumber, grantPs, sendOf}
+use Rattle.window.specs.History.{Carrier, prOf}
 use Rattle.window.specs.declared.receiver.Receiver.{Receiver}
 use Rattle.window.specs.declared.receiver.Receipt.{Receipt}
 use Rattle.window.specs.declared.receiver.Telling.{Telling}
@@ -24,32 +25,32 @@ use Rattle.window.specs.Receiving.{freshReceiver, receiverInOrder, receiptNumbe
 abbrev pub answerWith : ℕ → ℕ → ℕ
 answerWith number value = number + 256 * value
 
--- ---- the sending end: 2 bytes, the edge and the next PS
+-- ---- the sending end: 3 bytes, the edge, the next PS, and the mark "held off" as 0 or 1
 
--- the bytes encode a sending end, in good order or not: there are 2
+-- the bytes encode a sending end, in good order or not: there are 3, and the mark is 0 or 1
 unfoldable pub isSender : List ℕ → Bool
-isSender b = eqb (length b) 2
+isSender b = eqb (length b) 3 && leb (getD b 2 0) 1
 
 -- the end that the bytes encode
 abbrev pub senderIn : List ℕ → Sender
-senderIn b = record { edge = packet (getD b 0 0); ps = packet (getD b 1 0) }
+senderIn b = record { edge = packet (getD b 0 0); ps = packet (getD b 1 0); held = eqb (getD b 2 0) 1 }
 
 -- the bytes of an end
 abbrev pub senderBytes : Sender → List ℕ
-senderBytes s = s .edge .0 ∷ s .ps .0 ∷ []
+senderBytes s = s .edge .0 ∷ s .ps .0 ∷ flag (s .held) ∷ []
 
 -- the answer to `send`: the value is the PS granted
 abbrev pub grantAnswer : Grant → ℕ
 grantAnswer g = answerWith (grantNumber g) (grantPs g)
 
--- a fresh end: any 2 bytes are overwritten with it; another number of bytes is refused with 14, and
--- nothing is written
+-- a fresh end: any 3 bytes are overwritten with it, whatever the mark was; another number of bytes
+-- is refused with 14, and nothing is written
 unfoldable pub freshSenderAnswer : List ℕ → ℕ
-freshSenderAnswer b = cond (isSender b) 0 (numberOf NotInOrder)
+freshSenderAnswer b = cond (eqb (length b) 3) 0 (numberOf NotInOrder)
 
 -- the bytes afterwards
 unfoldable pub freshSenderBytes : List ℕ → List ℕ
-freshSenderBytes b = cond (isSender b) (senderBytes freshSender) b
+freshSenderBytes b = cond (eqb (length b) 3) (senderBytes freshSender) b
 
 -- 0 if the bytes encode a sending end in good order, else 14
 unfoldable pub senderOrderAnswer : List ℕ → ℕ
@@ -63,13 +64,14 @@ sendAnswer b = cond (isSender b) (grantAnswer (sendOf (senderIn b) .answer)) (nu
 unfoldable pub sendBytes : List ℕ → List ℕ
 sendBytes b = cond (isSender b) (senderBytes (sendOf (senderIn b) .next)) b
 
--- taking a received PR: the answer is the refusal number alone, without a value
-unfoldable pub acknowledgeAnswer : List ℕ → ℕ → ℕ
-acknowledgeAnswer b pr = cond (isSender b) (verdictNumber (acknowledgeOf (senderIn b) pr .verdict)) (numberOf NotInOrder)
+-- taking a received PR, which DATA, RR, RNR or REJECT carries: the answer is the refusal number
+-- alone, without a value
+unfoldable pub prAnswer : Carrier → List ℕ → ℕ → ℕ
+prAnswer carrier b pr = cond (isSender b) (verdictNumber (prOf carrier (senderIn b) pr .verdict)) (numberOf NotInOrder)
 
 -- the bytes afterwards
-unfoldable pub acknowledgeBytes : List ℕ → ℕ → List ℕ
-acknowledgeBytes b pr = cond (isSender b) (senderBytes (acknowledgeOf (senderIn b) pr .next)) b
+unfoldable pub prBytes : Carrier → List ℕ → ℕ → List ℕ
+prBytes carrier b pr = cond (isSender b) (senderBytes (prOf carrier (senderIn b) pr .next)) b
 
 -- ---- the receiving end: 3 bytes, the expected PS, the first-packet mark as 0 or 1, and the count
 

@@ -1,18 +1,22 @@
 // The two ends of the flow window in lent bytes, for callers that are not written in Rattle; `capi`
 // exports the calls to C. The caller keeps the bytes of an end and lends them to each call. A
-// sending end is 2 bytes: lower edge, next PS. A receiving end is 3 bytes: expected PS,
-// first-packet mark as 0 or 1, count of packets not yet told. A call answers one number, the
-// refusal number (0 for done) plus 256 times the value that its comment names; a refusal has the
-// value 0 and writes nothing. 14 refuses bytes of another length, a mark over 1, and an end that is
-// not in good order. specs/Stored.antt defines the layout and each answer.
+// sending end is 3 bytes: lower edge, next PS, mark "held off by RNR" as 0 or 1. A receiving end is
+// 3 bytes: expected PS, first-packet mark as 0 or 1, count of packets not yet told. A call answers
+// one number, the refusal number (0 for done) plus 256 times the value that its comment names; a
+// refusal has the value 0 and writes nothing. 14 refuses bytes of another length, a mark over 1,
+// and an end that is not in good order. specs/Stored.antt defines the layout and each answer.
 ghost use mathlib.Core.Path.{_≡_};
-ghost use lib.ListN.{length};
-ghost use Rattle.window_bytes.specs.Stored.{senderIn, senderBytes, isReceiver, receiverIn, receiverBytes, freshSenderAnswer, freshSenderBytes, senderOrderAnswer, sendAnswer, sendBytes, acknowledgeAnswer, acknowledgeBytes, freshReceiverAnswer, freshReceiverBytes, receiverOrderAnswer, receiveAnswer, receiveBytes, tellAnswer, tellBytes};
+ghost use mathlib.Core.Logic.{_≢_};
+ghost use lib.ListN.{length, getD};
+ghost use Rattle.refusal.specs.Numbers.{verdictNumber};
+ghost use Rattle.window.specs.History.{byData, ready, notReady, reject};
+ghost use Rattle.window_bytes.specs.Stored.{isSender, senderIn, senderBytes, isReceiver, receiverIn, receiverBytes, freshSenderAnswer, freshSenderBytes, senderOrderAnswer, sendAnswer, sendBytes, prAnswer, prBytes, freshReceiverAnswer, freshReceiverBytes, receiverOrderAnswer, receiveAnswer, receiveBytes, tellAnswer, tellBytes};
 use refusal::Verdict;
 use sequence::PacketNumber;
 use window::receiver::Receipt;
 use window::receiver::Receiver;
 use window::receiver::Telling;
+use window::sender::Acknowledged;
 use window::sender::Grant;
 use window::sender::Sender;
 
@@ -21,33 +25,43 @@ const NOT_IN_ORDER: u32 = 14;
 
 // ---- the sending end
 
+// Whether the bytes encode a sending end, in good order or not: there are 3, and the mark is 0 or
+// 1.
+fn is_sender(state: &[u8]) -> bool
+    ensures { λ r. ⌜ r ≡ isSender (now (state .entry)) ⌝ }
+{
+    state.len() == 3 && state[2] <= 1
+}
+
 // The end that the bytes encode.
 fn sender_in(state: &[u8]) -> Sender
-    requires { ⌜ length (now state) ≡ 2 ⌝ }
+    requires { ⌜ length (now state) ≡ 3 ⌝ }
     ensures { λ r. ⌜ r ≡ senderIn (now (state .entry)) ⌝ }
 {
     Sender {
         edge: PacketNumber(state[0]),
         ps: PacketNumber(state[1]),
+        held: state[2] == 1,
     }
 }
 
 // Writes the bytes of `end` to `state`.
 fn put_sender(state: &mut [u8], end: Sender)
-    requires { ⌜ length (now state) ≡ 2 ⌝ }
+    requires { ⌜ length (now state) ≡ 3 ⌝ }
     ensures { λ _. ⌜ now (state .exit) ≡ senderBytes end ⌝ }
 {
     state[0] = end.edge.0;
     state[1] = end.ps.0;
+    state[2] = little::flag(end.held);
 }
 
 // Writes a sending end that has sent nothing to `state`, whatever its bytes were. There is no
-// value. Refused with 14 if `state` has not 2 bytes.
+// value. Refused with 14 if `state` has not 3 bytes.
 pub fn sender_fresh(state: &mut [u8]) -> u32
     ensures { λ r. ⌜ r ≡ freshSenderAnswer (now (state .entry)) ⌝ }
     ensures { λ _. ⌜ now (state .exit) ≡ freshSenderBytes (now (state .entry)) ⌝ }
 {
-    if state.len() == 2 {
+    if state.len() == 3 {
         put_sender(state, Sender::fresh());
         0
     } else {
@@ -59,7 +73,7 @@ pub fn sender_fresh(state: &mut [u8]) -> u32
 pub fn sender_in_order(state: &[u8]) -> u32
     ensures { λ r. ⌜ r ≡ senderOrderAnswer (now (state .entry)) ⌝ }
 {
-    if state.len() == 2 {
+    if is_sender(state) {
         let end = sender_in(state);
         if end.in_order() { 0 } else { NOT_IN_ORDER }
     } else {
@@ -68,12 +82,12 @@ pub fn sender_in_order(state: &[u8]) -> u32
 }
 
 // Asks for the PS of the next packet, which is the value. Refused in the order 14, 9 (send window
-// closed). If it is granted, only the byte of the next PS is written.
+// closed, or held off by RNR). If it is granted, only the byte of the next PS is written.
 pub fn sender_send(state: &mut [u8]) -> u32
     ensures { λ r. ⌜ r ≡ sendAnswer (now (state .entry)) ⌝ }
     ensures { λ _. ⌜ now (state .exit) ≡ sendBytes (now (state .entry)) ⌝ }
 {
-    if state.len() == 2 {
+    if is_sender(state) {
         let end = sender_in(state);
         let sent = end.send();
         let answer = sent.answer;
@@ -90,25 +104,78 @@ pub fn sender_send(state: &mut [u8]) -> u32
     }
 }
 
-// Takes a received PR, which becomes the lower edge. There is no value. Refused in the order 14, 1
-// (PR over 15), 16 (PR acknowledges what was never sent). If it is accepted, only the byte of the
-// edge is written.
-pub fn sender_acknowledge(state: &mut [u8], pr: u8) -> u32
-    ensures { λ r. ⌜ r ≡ acknowledgeAnswer (now (state .entry)) pr ⌝ }
-    ensures { λ _. ⌜ now (state .exit) ≡ acknowledgeBytes (now (state .entry)) pr ⌝ }
+// Writes the end after a received PR to `state`, and answers its refusal number. No PR changes the
+// next PS and a refused one changes nothing, so that only the bytes of the edge and of the mark are
+// written, and only if the PR is accepted.
+fn put_pr(state: &mut [u8], acknowledged: Acknowledged) -> u32
+    requires { ⌜ length (now state) ≡ 3 ⌝ }
+    requires { ⌜ acknowledged .next .ps .0 ≡ getD (now state) 1 0 ⌝ }
+    requires { ⌜ (verdictNumber (acknowledged .verdict) ≢ 0 → senderBytes (acknowledged .next) ≡ now state) ⌝ }
+    ensures { λ r. ⌜ r ≡ verdictNumber (acknowledged .verdict) ⌝ }
+    ensures { λ _. ⌜ now (state .exit) ≡ senderBytes (acknowledged .next) ⌝ }
 {
-    if state.len() == 2 {
-        let end = sender_in(state);
-        let acknowledged = end.acknowledge(PacketNumber(pr));
-        let verdict = acknowledged.verdict;
-        match verdict {
-            Verdict::Done => {
-                let after = acknowledged.next;
-                state[0] = after.edge.0;
-                0
-            }
-            Verdict::Refused(why) => why.number() as u32,
+    let verdict = acknowledged.verdict;
+    match verdict {
+        Verdict::Done => {
+            let after = acknowledged.next;
+            state[0] = after.edge.0;
+            state[2] = little::flag(after.held);
+            0
         }
+        Verdict::Refused(why) => why.number() as u32,
+    }
+}
+
+// Takes the PR of a DATA packet, which becomes the lower edge; the mark stays as it is. There is no
+// value. Refused in the order 14, 1 (PR over 15), 16 (PR acknowledges what was never sent).
+pub fn sender_acknowledge(state: &mut [u8], pr: u8) -> u32
+    ensures { λ r. ⌜ r ≡ prAnswer byData (now (state .entry)) pr ⌝ }
+    ensures { λ _. ⌜ now (state .exit) ≡ prBytes byData (now (state .entry)) pr ⌝ }
+{
+    if is_sender(state) {
+        let end = sender_in(state);
+        put_pr(state, end.acknowledge(PacketNumber(pr)))
+    } else {
+        NOT_IN_ORDER
+    }
+}
+
+// Takes the PR of an RR, as `sender_acknowledge` does; if it is accepted, the end is no longer held
+// off.
+pub fn sender_ready(state: &mut [u8], pr: u8) -> u32
+    ensures { λ r. ⌜ r ≡ prAnswer ready (now (state .entry)) pr ⌝ }
+    ensures { λ _. ⌜ now (state .exit) ≡ prBytes ready (now (state .entry)) pr ⌝ }
+{
+    if is_sender(state) {
+        let end = sender_in(state);
+        put_pr(state, end.ready(PacketNumber(pr)))
+    } else {
+        NOT_IN_ORDER
+    }
+}
+
+// Takes the PR of an RNR, as `sender_acknowledge` does; if it is accepted, the end is held off.
+pub fn sender_not_ready(state: &mut [u8], pr: u8) -> u32
+    ensures { λ r. ⌜ r ≡ prAnswer notReady (now (state .entry)) pr ⌝ }
+    ensures { λ _. ⌜ now (state .exit) ≡ prBytes notReady (now (state .entry)) pr ⌝ }
+{
+    if is_sender(state) {
+        let end = sender_in(state);
+        put_pr(state, end.not_ready(PacketNumber(pr)))
+    } else {
+        NOT_IN_ORDER
+    }
+}
+
+// Takes the PR of a REJECT, as `sender_acknowledge` does; if it is accepted, the end is no longer
+// held off. The next PS stays as it is.
+pub fn sender_reject(state: &mut [u8], pr: u8) -> u32
+    ensures { λ r. ⌜ r ≡ prAnswer reject (now (state .entry)) pr ⌝ }
+    ensures { λ _. ⌜ now (state .exit) ≡ prBytes reject (now (state .entry)) pr ⌝ }
+{
+    if is_sender(state) {
+        let end = sender_in(state);
+        put_pr(state, end.reject(PacketNumber(pr)))
     } else {
         NOT_IN_ORDER
     }

@@ -1,13 +1,19 @@
 //! The measured calls: for each, the same inputs and the same resets for every version.
 
+mod routes;
 mod version;
 
 use std::hint::black_box;
 
-use plain::frame::{self, Form, Packet};
+use plain::frame::{self, Form};
 use plain::message::{self, Start};
+use plain::packet::{
+    CallAccept, CallRequest, ClearConfirmation, ClearRequest, Confirmation, Data, Interrupt,
+    Packet, Receipt, Reset,
+};
 use plain::resequencer::Resequencer;
 
+use routes::{read_route, write_route};
 use version::{Asked, Best, Library, Nothing, Plain, Version};
 
 /// Makes a call so many times; gives the sum of what the answers said.
@@ -47,6 +53,9 @@ calls! {
     "clock-end" clock_end false;
     "clock-end-far" clock_end_far false;
     "send" send false;
+    "sender-ready" sender_ready false;
+    "sender-not-ready" sender_not_ready false;
+    "sender-reject" sender_reject false;
     "receive" receive false;
     "write-data" write_data false;
     "read-data" read_data false;
@@ -54,6 +63,30 @@ calls! {
     "read-request" read_request false;
     "write-confirmation" write_confirmation false;
     "read-confirmation" read_confirmation false;
+    "write-call-request" write_call_request false;
+    "read-call-request" read_call_request false;
+    "write-call-request-air" write_call_request_air false;
+    "read-call-request-air" read_call_request_air false;
+    "write-call-accept" write_call_accept false;
+    "read-call-accept" read_call_accept false;
+    "write-call-accept-air" write_call_accept_air false;
+    "read-call-accept-air" read_call_accept_air false;
+    "write-rr" write_rr false;
+    "read-rr" read_rr false;
+    "write-rnr" write_rnr false;
+    "read-rnr" read_rnr false;
+    "write-reject" write_reject false;
+    "read-reject" read_reject false;
+    "write-interrupt" write_interrupt false;
+    "read-interrupt" read_interrupt false;
+    "write-interrupt-confirmation" write_interrupt_confirmation false;
+    "read-interrupt-confirmation" read_interrupt_confirmation false;
+    "write-reset" write_reset false;
+    "read-reset" read_reset false;
+    "write-reset-confirmation" write_reset_confirmation false;
+    "read-reset-confirmation" read_reset_confirmation false;
+    "write-route" write_route false;
+    "read-route" read_route false;
     "frame-fault" frame_fault false;
     "cut" cut true;
     "join" join true;
@@ -168,7 +201,7 @@ fn clock_end<V: Version>() -> Run {
 
 /// Fifteen packets from an edge of 9, then again from the start.
 fn send<V: Version>() -> Run {
-    let start = V::sender(9, 9);
+    let start = V::sender(9, 9, false);
     let (mut state, mut sent) = (start, 0);
     looped(move || {
         if sent == 15 {
@@ -178,6 +211,32 @@ fn send<V: Version>() -> Run {
         sent += 1;
         V::send(black_box(&mut state))
     })
+}
+
+/// Every PR of a window with fifteen packets out, from its edge of 9 on; then again from the start.
+fn take_pr<V: Version>(held_off: bool, take: fn(&mut V::Sender, u8) -> u64) -> Run {
+    let start = V::sender(9, 8, held_off);
+    let (mut state, mut taken) = (start, 0);
+    looped(move || {
+        if taken == 15 {
+            taken = 0;
+            state = start;
+        }
+        taken += 1;
+        take(black_box(&mut state), (9 + taken) % 16)
+    })
+}
+
+fn sender_ready<V: Version>() -> Run {
+    take_pr::<V>(true, V::ready)
+}
+
+fn sender_not_ready<V: Version>() -> Run {
+    take_pr::<V>(false, V::not_ready)
+}
+
+fn sender_reject<V: Version>() -> Run {
+    take_pr::<V>(true, V::reject)
 }
 
 /// Each packet is the expected one.
@@ -190,14 +249,14 @@ fn receive<V: Version>() -> Run {
     })
 }
 
-const DATA: Packet = Packet::Data {
+const DATA: Packet = Packet::Data(Data {
     m: true,
     sn: 5,
     ps: 3,
     pr: 2,
     ch: 4,
-};
-const REQUEST: Packet = Packet::ClearRequest {
+});
+const REQUEST: Packet = Packet::ClearRequest(ClearRequest {
     tc: 1,
     sn: 9,
     ch: 3,
@@ -207,17 +266,70 @@ const REQUEST: Packet = Packet::ClearRequest {
     dc: 162,
     s: true,
     f: false,
-};
-const CONFIRMATION: Packet = Packet::ClearConfirmation {
+});
+const CONFIRMATION: Packet = Packet::ClearConfirmation(ClearConfirmation {
     tc: 1,
     sn: 9,
     ch: 3,
     am: 2,
     ag: 0x41,
-};
+});
 
-fn write<V: Version>(packet: Packet, user_length: usize) -> Run {
-    let (form, packet) = (V::form(Form::LongUplink), V::packet(packet));
+/// A CALL REQUEST of the uplink, then of the downlink.
+const CALL_REQUEST: Packet = call_request(1, 0);
+const CALL_REQUEST_AIR: Packet = call_request(0, 3);
+
+const fn call_request(tc: u8, ch: u8) -> Packet {
+    Packet::CallRequest(CallRequest {
+        p: true,
+        sn: 5,
+        tc,
+        ch,
+        am: 2,
+        ag: 0x41,
+        s: true,
+        fs: 2,
+        f: false,
+    })
+}
+
+/// A CALL ACCEPT of the uplink, then of the downlink.
+const CALL_ACCEPT: Packet = call_accept(0);
+const CALL_ACCEPT_AIR: Packet = call_accept(1);
+
+const fn call_accept(tc: u8) -> Packet {
+    Packet::CallAccept(CallAccept {
+        tc,
+        sn: 5,
+        ch: 3,
+        am: 2,
+        ag: 0x41,
+        s: true,
+        f: false,
+    })
+}
+
+const RECEIPT: Receipt = Receipt {
+    sn: 5,
+    ch: 3,
+    pr: 7,
+};
+const CONFIRMED: Confirmation = Confirmation { sn: 5, ch: 3 };
+const INTERRUPT: Packet = Packet::Interrupt(Interrupt {
+    s: false,
+    f: true,
+    sn: 5,
+    ch: 3,
+});
+const RESET: Packet = Packet::Reset(Reset {
+    sn: 5,
+    ch: 3,
+    rc: 1,
+    dc: 2,
+});
+
+fn write<V: Version>(form: Form, packet: Packet, user_length: usize) -> Run {
+    let (form, packet) = (V::form(form), V::packet(packet));
     let user = vec![0x55; user_length];
     let mut out = [0; 160];
     looped(move || {
@@ -226,50 +338,69 @@ fn write<V: Version>(packet: Packet, user_length: usize) -> Run {
     })
 }
 
-fn written(packet: Packet, user_length: usize) -> Vec<u8> {
+fn written(form: Form, packet: Packet, user_length: usize) -> Vec<u8> {
     let mut frame = vec![0; 160];
     let user = vec![0x55; user_length];
-    let length = frame::write(Form::LongUplink, &packet, &user, &mut frame).unwrap();
+    let length = frame::write(form, &packet, &user, &mut frame).unwrap();
     frame.truncate(length);
     frame
 }
 
-fn read<V: Version>(packet: Packet, user_length: usize) -> Run {
-    let (form, frame) = (V::form(Form::LongUplink), written(packet, user_length));
+fn read<V: Version>(form: Form, packet: Packet, user_length: usize) -> Run {
+    let frame = written(form, packet, user_length);
+    let form = V::form(form);
     looped(move || V::read(black_box(form), black_box(&frame[..])))
 }
 
-/// User data of a DATA packet and of a CLEAR REQUEST: neither fills its last segment.
+const UP: Form = Form::LongUplink;
+const DOWN: Form = Form::LongDownlink(16);
+
+/// User data of a DATA packet, of a CLEAR REQUEST, and of the other packets that have some: none
+/// fills its last segment but that of an INTERRUPT.
 const DATA_USER: usize = 60;
 const REQUEST_USER: usize = 16;
+const USER: usize = 17;
 
-fn write_data<V: Version>() -> Run {
-    write::<V>(DATA, DATA_USER)
+macro_rules! frames {
+    ($($write:ident $read:ident $form:ident $packet:expr, $user:ident;)*) => {
+        $(
+            fn $write<V: Version>() -> Run {
+                write::<V>($form, $packet, $user)
+            }
+
+            fn $read<V: Version>() -> Run {
+                read::<V>($form, $packet, $user)
+            }
+        )*
+    };
 }
 
-fn read_data<V: Version>() -> Run {
-    read::<V>(DATA, DATA_USER)
-}
+const NONE: usize = 0;
 
-fn write_request<V: Version>() -> Run {
-    write::<V>(REQUEST, REQUEST_USER)
-}
-
-fn read_request<V: Version>() -> Run {
-    read::<V>(REQUEST, REQUEST_USER)
-}
-
-fn write_confirmation<V: Version>() -> Run {
-    write::<V>(CONFIRMATION, 0)
-}
-
-fn read_confirmation<V: Version>() -> Run {
-    read::<V>(CONFIRMATION, 0)
+frames! {
+    write_data read_data UP DATA, DATA_USER;
+    write_request read_request UP REQUEST, REQUEST_USER;
+    write_confirmation read_confirmation UP CONFIRMATION, NONE;
+    write_call_request read_call_request UP CALL_REQUEST, USER;
+    write_call_request_air read_call_request_air DOWN CALL_REQUEST_AIR, USER;
+    write_call_accept read_call_accept UP CALL_ACCEPT, USER;
+    write_call_accept_air read_call_accept_air DOWN CALL_ACCEPT_AIR, USER;
+    write_rr read_rr UP Packet::ReceiveReady(RECEIPT), NONE;
+    write_rnr read_rnr UP Packet::ReceiveNotReady(RECEIPT), NONE;
+    write_reject read_reject UP Packet::Reject(RECEIPT), NONE;
+    write_interrupt read_interrupt UP INTERRUPT, USER;
+    write_interrupt_confirmation read_interrupt_confirmation
+        UP Packet::InterruptConfirmation(CONFIRMED), NONE;
+    write_reset read_reset UP RESET, NONE;
+    write_reset_confirmation read_reset_confirmation UP Packet::ResetConfirmation(CONFIRMED), NONE;
 }
 
 /// The last byte of the padding is wrong, so that all of the frame is looked at.
 fn frame_fault<V: Version>() -> Run {
-    let (form, mut frame) = (V::form(Form::LongUplink), written(REQUEST, REQUEST_USER));
+    let (form, mut frame) = (
+        V::form(Form::LongUplink),
+        written(UP, REQUEST, REQUEST_USER),
+    );
     *frame.last_mut().expect("it is not empty") = 1;
     looped(move || V::frame_fault(black_box(form), black_box(&frame[..])))
 }

@@ -7,8 +7,9 @@
 use std::hint::black_box;
 
 use pepperknoll::raw;
-use plain::frame::{Form, Packet};
+use plain::frame::Form;
 use plain::message::Start;
+use plain::packet::Packet;
 use plain::resequencer::Resequencer;
 
 /// The places for tickets.
@@ -36,7 +37,7 @@ pub trait Version {
 
     fn form(form: Form) -> Self::Form;
     fn packet(packet: Packet) -> Self::Packet;
-    fn sender(edge: u8, next: u8) -> Self::Sender;
+    fn sender(edge: u8, next: u8, held_off: bool) -> Self::Sender;
     fn receiver() -> Self::Receiver;
     fn resequencer(state: &Resequencer) -> Self::Resequencer;
     fn table(codes: [u16; 256]) -> Self::Table;
@@ -44,8 +45,12 @@ pub trait Version {
     fn arrive(state: &mut Self::Resequencer, sn: u8, ticket: u16, out: &mut Places) -> u64;
     fn clock_end(state: &mut Self::Resequencer, sn: u8, out: &mut Places) -> u64;
     fn send(state: &mut Self::Sender) -> u64;
+    fn ready(state: &mut Self::Sender, pr: u8) -> u64;
+    fn not_ready(state: &mut Self::Sender, pr: u8) -> u64;
+    fn reject(state: &mut Self::Sender, pr: u8) -> u64;
     fn receive(state: &mut Self::Receiver, ps: u8) -> u64;
     fn write(form: Self::Form, packet: &Self::Packet, user: &[u8], out: &mut [u8]) -> u64;
+    /// Gives where the user data ends.
     fn read(form: Self::Form, frame: &[u8]) -> u64;
     fn frame_fault(form: Self::Form, frame: &[u8]) -> u64;
     fn cut(
@@ -66,7 +71,7 @@ pub struct Library;
 
 /// The values of an answer; a refusal would be none of the measured work.
 #[inline(always)]
-fn done(answer: u64) -> u64 {
+pub fn done(answer: u64) -> u64 {
     assert!(answer as u8 == 0);
     answer >> 8
 }
@@ -76,7 +81,7 @@ fn done(answer: u64) -> u64 {
 impl Version for Library {
     type Form = u8;
     type Packet = [u8; 10];
-    type Sender = [u8; 2];
+    type Sender = [u8; 3];
     type Receiver = [u8; 3];
     type Resequencer = [u8; 146];
     type Table = [u8; 512];
@@ -94,8 +99,8 @@ impl Version for Library {
         packet.to_bytes()
     }
 
-    fn sender(edge: u8, next: u8) -> [u8; 2] {
-        [edge, next]
+    fn sender(edge: u8, next: u8, held_off: bool) -> [u8; 3] {
+        [edge, next, held_off.into()]
     }
 
     fn receiver() -> [u8; 3] {
@@ -125,8 +130,26 @@ impl Version for Library {
     }
 
     #[inline(always)]
-    fn send(state: &mut [u8; 2]) -> u64 {
-        done(unsafe { raw::pk_sender_send(state.as_mut_ptr(), 2) }.into())
+    fn send(state: &mut [u8; 3]) -> u64 {
+        done(unsafe { raw::pk_sender_send(state.as_mut_ptr(), 3) }.into())
+    }
+
+    #[inline(always)]
+    fn ready(state: &mut [u8; 3], pr: u8) -> u64 {
+        let answer = unsafe { raw::pk_sender_ready(state.as_mut_ptr(), 3, pr) };
+        done(answer.into()) + u64::from(state[0])
+    }
+
+    #[inline(always)]
+    fn not_ready(state: &mut [u8; 3], pr: u8) -> u64 {
+        let answer = unsafe { raw::pk_sender_not_ready(state.as_mut_ptr(), 3, pr) };
+        done(answer.into()) + u64::from(state[0])
+    }
+
+    #[inline(always)]
+    fn reject(state: &mut [u8; 3], pr: u8) -> u64 {
+        let answer = unsafe { raw::pk_sender_reject(state.as_mut_ptr(), 3, pr) };
+        done(answer.into()) + u64::from(state[0])
     }
 
     #[inline(always)]
@@ -155,7 +178,9 @@ impl Version for Library {
         let mut packet = [0; 10];
         let (start, length) = (frame.as_ptr(), frame.len());
         let answer = unsafe { raw::pk_frame_read(form, start, length, packet.as_mut_ptr(), 10) };
-        (done(answer) >> 8) + u64::from(black_box(&packet)[2])
+        black_box(&packet);
+        let values = done(answer);
+        (values & 0xFF) + (values >> 8)
     }
 
     #[inline(always)]
@@ -224,14 +249,14 @@ impl Version for Library {
 pub struct Nothing;
 
 #[inline(never)]
-fn nothing() -> u64 {
+pub fn nothing() -> u64 {
     black_box(1)
 }
 
 impl Version for Nothing {
     type Form = Form;
     type Packet = Packet;
-    type Sender = [u8; 2];
+    type Sender = [u8; 3];
     type Receiver = [u8; 3];
     type Resequencer = [u8; 146];
     type Table = [u8; 512];
@@ -244,8 +269,8 @@ impl Version for Nothing {
         packet
     }
 
-    fn sender(edge: u8, next: u8) -> [u8; 2] {
-        [edge, next]
+    fn sender(edge: u8, next: u8, held_off: bool) -> [u8; 3] {
+        [edge, next, held_off.into()]
     }
 
     fn receiver() -> [u8; 3] {
@@ -271,7 +296,22 @@ impl Version for Nothing {
     }
 
     #[inline(always)]
-    fn send(_: &mut [u8; 2]) -> u64 {
+    fn send(_: &mut [u8; 3]) -> u64 {
+        nothing()
+    }
+
+    #[inline(always)]
+    fn ready(_: &mut [u8; 3], _: u8) -> u64 {
+        nothing()
+    }
+
+    #[inline(always)]
+    fn not_ready(_: &mut [u8; 3], _: u8) -> u64 {
+        nothing()
+    }
+
+    #[inline(always)]
+    fn reject(_: &mut [u8; 3], _: u8) -> u64 {
         nothing()
     }
 
@@ -344,8 +384,8 @@ macro_rules! rust_version {
                 packet
             }
 
-            fn sender(edge: u8, next: u8) -> Self::Sender {
-                $package::window::Sender { edge, next }
+            fn sender(edge: u8, next: u8, held_off: bool) -> Self::Sender {
+                $package::window::Sender { edge, next, held_off }
             }
 
             fn receiver() -> Self::Receiver {
@@ -397,6 +437,45 @@ macro_rules! rust_version {
             }
 
             #[inline(always)]
+            fn ready(state: &mut Self::Sender, pr: u8) -> u64 {
+                #[inline(never)]
+                fn call(
+                    state: &mut $package::window::Sender,
+                    pr: u8,
+                ) -> Result<(), plain::Refusal> {
+                    state.ready(pr)
+                }
+                call(state, pr).unwrap();
+                state.edge.into()
+            }
+
+            #[inline(always)]
+            fn not_ready(state: &mut Self::Sender, pr: u8) -> u64 {
+                #[inline(never)]
+                fn call(
+                    state: &mut $package::window::Sender,
+                    pr: u8,
+                ) -> Result<(), plain::Refusal> {
+                    state.not_ready(pr)
+                }
+                call(state, pr).unwrap();
+                state.edge.into()
+            }
+
+            #[inline(always)]
+            fn reject(state: &mut Self::Sender, pr: u8) -> u64 {
+                #[inline(never)]
+                fn call(
+                    state: &mut $package::window::Sender,
+                    pr: u8,
+                ) -> Result<(), plain::Refusal> {
+                    state.reject(pr)
+                }
+                call(state, pr).unwrap();
+                state.edge.into()
+            }
+
+            #[inline(always)]
             fn receive(state: &mut Self::Receiver, ps: u8) -> u64 {
                 #[inline(never)]
                 fn call(
@@ -430,13 +509,11 @@ macro_rules! rust_version {
                 }
                 // Looked at where it stands: a copy would be none of the call's work.
                 let result = call(form, frame);
-                let Ok((packet, user)) = black_box(&result) else {
+                let Ok((_, user)) = black_box(&result) else {
                     panic!("refused")
                 };
-                let (Packet::Data { sn, .. }
-                | Packet::ClearRequest { sn, .. }
-                | Packet::ClearConfirmation { sn, .. }) = *packet;
-                user.len() as u64 + u64::from(sn)
+                let start = user.as_ptr() as usize - frame.as_ptr() as usize;
+                (start + user.len()) as u64
             }
 
             #[inline(always)]

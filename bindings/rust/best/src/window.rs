@@ -6,6 +6,7 @@ use plain::Refusal;
 pub struct Sender {
     pub edge: u8,
     pub next: u8,
+    pub held_off: bool,
 }
 
 impl Sender {
@@ -16,11 +17,50 @@ impl Sender {
         if self.edge | ps > 15 {
             return Err(Refusal::NotInOrder);
         }
-        if ps.wrapping_sub(self.edge) & 15 == 15 {
+        if self.held_off | (ps.wrapping_sub(self.edge) & 15 == 15) {
             return Err(Refusal::WindowClosed);
         }
         self.next = (ps + 1) & 15;
         Ok(ps)
+    }
+
+    /// Takes the PR of a DATA packet.
+    #[inline]
+    pub fn acknowledge(&mut self, pr: u8) -> Result<(), Refusal> {
+        self.take(pr, self.held_off)
+    }
+
+    /// Takes an RR by its PR.
+    #[inline]
+    pub fn ready(&mut self, pr: u8) -> Result<(), Refusal> {
+        self.take(pr, false)
+    }
+
+    /// Takes an RNR by its PR.
+    #[inline]
+    pub fn not_ready(&mut self, pr: u8) -> Result<(), Refusal> {
+        self.take(pr, true)
+    }
+
+    /// Takes a REJECT by its PR.
+    #[inline]
+    pub fn reject(&mut self, pr: u8) -> Result<(), Refusal> {
+        self.take(pr, false)
+    }
+
+    #[inline]
+    fn take(&mut self, pr: u8, held_off: bool) -> Result<(), Refusal> {
+        if self.edge | self.next > 15 {
+            return Err(Refusal::NotInOrder);
+        }
+        if pr > 15 {
+            return Err(Refusal::OutOfRange);
+        }
+        if pr.wrapping_sub(self.edge) & 15 > self.next.wrapping_sub(self.edge) & 15 {
+            return Err(Refusal::NeverSent);
+        }
+        (self.edge, self.held_off) = (pr, held_off);
+        Ok(())
     }
 }
 

@@ -1,7 +1,8 @@
 //! The fast version against the plain one: the same answers, the same lent memory.
 
-use plain::frame::{Form, Packet};
+use plain::frame::Form;
 use plain::message::Start;
+use plain::packet::Packet;
 use plain::resequencer::PLACES;
 use plain::route::LOST;
 use plain::Refusal;
@@ -60,14 +61,42 @@ impl Random {
     }
 }
 
+/// One call on a sending end, of both.
+fn send_or_take(bits: u32, call: usize, pr: u8) {
+    let [edge, next, ..] = bits.to_le_bytes();
+    let held_off = bits >> 16 & 1 == 1;
+    let mut fast = best::window::Sender {
+        edge,
+        next,
+        held_off,
+    };
+    let mut plain = plain::window::Sender {
+        edge,
+        next,
+        held_off,
+    };
+    match call {
+        0 => assert_eq!(fast.send(), plain.send()),
+        1 => assert_eq!(fast.acknowledge(pr), plain.acknowledge(pr)),
+        2 => assert_eq!(fast.ready(pr), plain.ready(pr)),
+        3 => assert_eq!(fast.not_ready(pr), plain.not_ready(pr)),
+        _ => assert_eq!(fast.reject(pr), plain.reject(pr)),
+    }
+    assert_eq!(
+        [fast.edge, fast.next, fast.held_off.into()],
+        plain.to_bytes()
+    );
+}
+
 #[test]
 fn windows() {
-    for bits in 0..=0xFFFFu16 {
-        let [edge, next] = bits.to_le_bytes();
-        let mut fast = best::window::Sender { edge, next };
-        let mut plain = plain::window::Sender { edge, next };
-        assert_eq!(fast.send(), plain.send());
-        assert_eq!([fast.edge, fast.next], plain.to_bytes());
+    for bits in 0..1 << 17 {
+        send_or_take(bits, 0, 0);
+        let small = bits & 0x11F1F == bits;
+        let prs = if small { 0..18 } else { 15..17 };
+        for (call, pr) in (1..=4).flat_map(|call| prs.clone().map(move |pr| (call, pr))) {
+            send_or_take(bits, call, pr);
+        }
     }
     for bits in 0..1u32 << 18 {
         let [expected, count, ps] = [0, 6, 12].map(|shift| (bits >> shift & 31) as u8);
@@ -148,26 +177,41 @@ fn resequencer() {
     }
 }
 
-fn packet(random: &mut Random) -> Packet {
-    let (tc, sn) = (random.field(2), random.field(6));
-    let [ch, am, ps, pr] = [(); 4].map(|()| random.field(4));
-    let [ag, cc, dc] = [(); 3].map(|()| random.byte());
-    let [m, s, f] = [(); 3].map(|()| random.one_in(2));
-    match random.below(3) {
-        0 => Packet::Data { m, sn, ps, pr, ch },
-        1 => Packet::ClearConfirmation { tc, sn, ch, am, ag },
-        _ => Packet::ClearRequest {
-            tc,
-            sn,
-            ch,
-            am,
-            ag,
-            cc,
-            dc,
-            s,
-            f,
-        },
+/// How many bits each field of a kind has, on the downlink; the uplink has other places for two.
+const WIDTHS: [&[u32]; 12] = [
+    &[1, 6, 4, 4, 4],
+    &[2, 6, 4, 4, 8, 8, 8, 1, 1],
+    &[2, 6, 4, 4, 8],
+    &[1, 6, 0, 4, 4, 8, 1, 2, 1],
+    &[2, 6, 4, 4, 8, 1, 1],
+    &[6, 4, 4],
+    &[6, 4, 4],
+    &[6, 4, 4],
+    &[1, 1, 6, 4],
+    &[6, 4],
+    &[6, 4, 8, 8],
+    &[6, 4],
+];
+
+/// A packet of any kind but ROUTE. Flags are good, else there is no packet at all.
+fn packet(random: &mut Random, form: Form) -> Packet {
+    let kind = random.below(WIDTHS.len());
+    let uplink = !matches!(form, Form::LongDownlink(_));
+    let mut bytes = vec![kind as u8];
+    for (at, &bits) in WIDTHS[kind].iter().enumerate() {
+        let bits = match (kind, at, uplink) {
+            (3, 2, true) => 2,                // TC
+            (3, 3, true) | (4, 0, true) => 0, // CH, TC
+            _ => bits,
+        };
+        bytes.push(match bits {
+            1 => random.byte() & 1,
+            8 => random.byte(),
+            _ => random.field(bits),
+        });
     }
+    bytes.resize(10, 0);
+    Packet::from_bytes(&bytes).expect("a packet")
 }
 
 /// Writing agrees and, beside it, reading: a frame that was written, or one of the short form,
@@ -176,13 +220,13 @@ fn packet(random: &mut Random) -> Packet {
 fn frames() {
     let (mut random, mut short) = (Random(2), Short::default());
     for _ in 0..300_000 {
-        let (form, packet) = (random.form(), packet(&mut random));
+        let form = random.form();
+        let packet = packet(&mut random, form);
         let longest = [12, 40, 170][random.below(3)];
-        let confirmation = matches!(packet, Packet::ClearConfirmation { .. });
-        let most = if confirmation && !random.one_in(8) {
-            1
-        } else {
+        let most = if packet.has_user() || random.one_in(8) {
             longest
+        } else {
+            1
         };
         let user: Vec<u8> = (0..random.below(most)).map(|_| random.byte()).collect();
         let room = if random.one_in(4) {
@@ -205,6 +249,63 @@ fn frames() {
         }
     }
     short.finish(Refusal::PacketTooLong);
+}
+
+/// The same of ROUTE: table and optional data of any length.
+#[test]
+fn routes_in_frames() {
+    let (mut random, mut short) = (Random(5), Short::default());
+    for _ in 0..100_000 {
+        let (form, init) = (random.form(), random.one_in(2));
+        let some_bytes = |random: &mut Random| {
+            let longest = [4, 30, 160, 300][random.below(4)];
+            let length = random.below(longest);
+            (0..length).map(|_| random.byte()).collect::<Vec<u8>>()
+        };
+        let table = some_bytes(&mut random);
+        let data = (!random.one_in(3)).then(|| some_bytes(&mut random));
+        let room = if random.one_in(4) {
+            random.below(170)
+        } else {
+            180
+        };
+        let (mut fast, mut plain) = (vec![0xEE; room], vec![0xEE; room]);
+        let data = data.as_deref();
+        let mut made = plain::route_packet::write(form, init, &table, data, &mut plain);
+        let fast_made = best::frame::write_route(form, init, &table, data, &mut fast);
+        assert_eq!(fast_made, made);
+        assert_eq!(fast, plain);
+        if form == Form::ShortUplink {
+            let laid_out = plain::route_packet::lay_out(form, init, &table, data, &mut plain);
+            short.saw(made, laid_out);
+            made = laid_out;
+        }
+        if let Ok(length) = made {
+            plain.truncate(length);
+            read_and_damage(&mut random, form, plain);
+        }
+    }
+    short.out_of_range = 50; // the short form itself is in range
+    short.finish(Refusal::PacketTooLong);
+}
+
+/// Any first byte and any bytes after it, so that every kind is met with every fill.
+#[test]
+fn frames_of_any_bytes() {
+    let mut random = Random(6);
+    for turn in 0..400_000 {
+        let form = random.form();
+        let segment = form.sizes().map_or(10, |sizes| sizes.segment);
+        let length = segment * (1 + random.below(3));
+        let mut frame: Vec<u8> = (0..length).map(|_| random.byte()).collect();
+        frame[0] = (turn % 0x84) as u8;
+        if random.one_in(2) {
+            frame[1] &= 0x3F;
+            frame[2] &= [0xF0, 0x3F, 0xFF][random.below(3)];
+            frame[3 + random.below(4)..].fill(0);
+        }
+        read_and_damage(&mut random, form, frame);
+    }
 }
 
 fn read_and_damage(random: &mut Random, form: Form, mut frame: Vec<u8>) {

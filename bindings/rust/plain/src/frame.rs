@@ -1,5 +1,15 @@
 //! Frames: one packet each, padded to whole segments.
 
+use crate::header::{
+    Headed, Way, CALL_ACCEPT, CALL_REQUEST, CLEAR_CONFIRMATION, CLEAR_REQUEST, DATA, FRONT,
+    INTERRUPT, INTERRUPT_CONFIRMATION, RECEIVE_NOT_READY, RECEIVE_READY, REJECT, RESET,
+    RESET_CONFIRMATION, ROUTE, ROUTE_LAST,
+};
+use crate::packet::{
+    CallAccept, CallRequest, ClearConfirmation, ClearRequest, Confirmation, Data, Interrupt,
+    Packet, Receipt, Reset,
+};
+use crate::route_packet;
 use crate::{Fault, Refusal};
 
 /// The form of a frame.
@@ -42,6 +52,14 @@ impl Form {
         Ok(Sizes { segment, largest })
     }
 
+    #[inline]
+    pub(crate) fn way(self) -> Way {
+        match self {
+            Form::ShortUplink | Form::LongUplink => Way::Up,
+            Form::LongDownlink(_) => Way::Down,
+        }
+    }
+
     /// Refuses the form that is read, but no longer written.
     #[inline]
     pub(crate) fn still_written(self) -> Result<(), Refusal> {
@@ -52,173 +70,13 @@ impl Form {
     }
 }
 
-/// A packet without its user data, which stands beside it.
-#[derive(Clone, Copy, Debug, PartialEq, Eq)]
-pub enum Packet {
-    Data {
-        m: bool,
-        sn: u8,
-        ps: u8,
-        pr: u8,
-        ch: u8,
-    },
-    ClearRequest {
-        tc: u8,
-        sn: u8,
-        ch: u8,
-        am: u8,
-        ag: u8,
-        cc: u8,
-        dc: u8,
-        s: bool,
-        f: bool,
-    },
-    ClearConfirmation {
-        tc: u8,
-        sn: u8,
-        ch: u8,
-        am: u8,
-        ag: u8,
-    },
-}
-
-pub const DATA_HEADER: usize = 3;
-pub const CLEAR_REQUEST_HEADER: usize = 7;
-pub const CLEAR_CONFIRMATION_HEADER: usize = 4;
-
-/// First bytes of the two clearing packets: DP 0, MP 1, SP 1, ST 2 or 3, fill 0.
-const CLEAR_REQUEST: u8 = 0x58;
-const CLEAR_CONFIRMATION: u8 = 0x5C;
-
-/// The bytes of a packet as the interface lays it out.
-pub const PACKET_BYTES: usize = 10;
-
-impl Packet {
-    /// A packet as the interface lays it out. Refused are: another number of bytes, a kind that is
-    /// none, a flag over 1, and a byte other than 0 where the kind has no field.
-    pub fn from_bytes(bytes: &[u8]) -> Result<Self, Refusal> {
-        let &[kind, b1, b2, b3, b4, b5, b6, b7, b8, b9] = bytes else {
-            return Err(Refusal::OutOfRange);
-        };
-        match (kind, [b6, b7, b8, b9]) {
-            (0, [0, 0, 0, 0]) => Ok(Packet::Data {
-                m: flag(b1)?,
-                sn: b2,
-                ps: b3,
-                pr: b4,
-                ch: b5,
-            }),
-            (1, [cc, dc, s, f]) => Ok(Packet::ClearRequest {
-                tc: b1,
-                sn: b2,
-                ch: b3,
-                am: b4,
-                ag: b5,
-                cc,
-                dc,
-                s: flag(s)?,
-                f: flag(f)?,
-            }),
-            (2, [0, 0, 0, 0]) => Ok(Packet::ClearConfirmation {
-                tc: b1,
-                sn: b2,
-                ch: b3,
-                am: b4,
-                ag: b5,
-            }),
-            _ => Err(Refusal::OutOfRange),
-        }
-    }
-
-    pub fn to_bytes(self) -> [u8; PACKET_BYTES] {
-        match self {
-            Packet::Data { m, sn, ps, pr, ch } => [0, u8::from(m), sn, ps, pr, ch, 0, 0, 0, 0],
-            Packet::ClearRequest {
-                tc,
-                sn,
-                ch,
-                am,
-                ag,
-                cc,
-                dc,
-                s,
-                f,
-            } => [1, tc, sn, ch, am, ag, cc, dc, u8::from(s), u8::from(f)],
-            Packet::ClearConfirmation { tc, sn, ch, am, ag } => [2, tc, sn, ch, am, ag, 0, 0, 0, 0],
-        }
-    }
-
-    #[inline]
-    pub fn header_len(&self) -> usize {
-        match self {
-            Packet::Data { .. } => DATA_HEADER,
-            Packet::ClearRequest { .. } => CLEAR_REQUEST_HEADER,
-            Packet::ClearConfirmation { .. } => CLEAR_CONFIRMATION_HEADER,
-        }
-    }
-
-    /// Whether each value fits its field.
-    #[inline]
-    fn fits(&self) -> bool {
-        match *self {
-            Packet::Data { sn, ps, pr, ch, .. } => sn <= 63 && ps <= 15 && pr <= 15 && ch <= 15,
-            Packet::ClearRequest { tc, sn, ch, am, .. }
-            | Packet::ClearConfirmation { tc, sn, ch, am, .. } => {
-                tc <= 3 && sn <= 63 && ch <= 15 && am <= 15
-            }
-        }
-    }
-
-    /// Puts the header to the front of a frame.
-    #[inline]
-    fn put_header(&self, lv: u8, frame: &mut [u8]) {
-        match *self {
-            Packet::Data { m, sn, ps, pr, ch } => frame[..DATA_HEADER].copy_from_slice(&[
-                0x80 | u8::from(m) << 6 | sn,
-                ps << 4 | pr,
-                ch << 4 | lv,
-            ]),
-            Packet::ClearRequest {
-                tc,
-                sn,
-                ch,
-                am,
-                ag,
-                cc,
-                dc,
-                s,
-                f,
-            } => frame[..CLEAR_REQUEST_HEADER].copy_from_slice(&[
-                CLEAR_REQUEST,
-                tc << 6 | sn,
-                ch << 4 | am,
-                ag,
-                cc,
-                dc,
-                u8::from(s) << 7 | u8::from(f) << 4 | lv,
-            ]),
-            Packet::ClearConfirmation { tc, sn, ch, am, ag } => frame[..CLEAR_CONFIRMATION_HEADER]
-                .copy_from_slice(&[CLEAR_CONFIRMATION, tc << 6 | sn, ch << 4 | am, ag]),
-        }
-    }
-}
-
-#[inline]
-fn flag(byte: u8) -> Result<bool, Refusal> {
-    match byte {
-        0 => Ok(false),
-        1 => Ok(true),
-        _ => Err(Refusal::OutOfRange),
-    }
-}
-
 /// Writes a packet and its user data as one frame to the front of `out`; answers its length. Checks
-/// 1, then the short form (23), then 13 and 5.
+/// 1, then the short form (23), then 13 and 5. A ROUTE is not written so: 1.
 #[inline]
 pub fn write(form: Form, packet: &Packet, user: &[u8], out: &mut [u8]) -> Result<usize, Refusal> {
     let sizes = in_range(form, packet, user)?;
     form.still_written()?;
-    put(sizes, packet, user, out)
+    put(form.way(), sizes, packet, user, out)
 }
 
 /// The frame by the layout, for every form; the writer refuses the short one. Checks 1, 13, 5.
@@ -227,15 +85,14 @@ pub fn write(form: Form, packet: &Packet, user: &[u8], out: &mut [u8]) -> Result
 #[inline]
 pub fn lay_out(form: Form, packet: &Packet, user: &[u8], out: &mut [u8]) -> Result<usize, Refusal> {
     let sizes = in_range(form, packet, user)?;
-    put(sizes, packet, user, out)
+    put(form.way(), sizes, packet, user, out)
 }
 
 /// All that is refused with 1; answers the sizes of the form.
 #[inline]
 fn in_range(form: Form, packet: &Packet, user: &[u8]) -> Result<Sizes, Refusal> {
     let sizes = form.sizes()?;
-    let takes_user = !matches!(packet, Packet::ClearConfirmation { .. });
-    if !packet.fits() || !(takes_user || user.is_empty()) {
+    if !packet.fits(form.way()) || !(packet.has_user() || user.is_empty()) {
         return Err(Refusal::OutOfRange);
     }
     Ok(sizes)
@@ -243,7 +100,13 @@ fn in_range(form: Form, packet: &Packet, user: &[u8]) -> Result<Sizes, Refusal> 
 
 /// Puts a packet that is in range to the front of `out`, as a frame with segments of this size.
 #[inline(always)] // into each of the two callers: writing has one size of segments only
-fn put(sizes: Sizes, packet: &Packet, user: &[u8], out: &mut [u8]) -> Result<usize, Refusal> {
+fn put(
+    way: Way,
+    sizes: Sizes,
+    packet: &Packet,
+    user: &[u8],
+    out: &mut [u8],
+) -> Result<usize, Refusal> {
     let header = packet.header_len();
     let length = header + user.len();
     if length > sizes.largest {
@@ -254,27 +117,78 @@ fn put(sizes: Sizes, packet: &Packet, user: &[u8], out: &mut [u8]) -> Result<usi
         .get_mut(..segments * sizes.segment)
         .ok_or(Refusal::OutputTooShort)?;
     let lv = length - (segments - 1) * sizes.segment;
-    packet.put_header(lv as u8, frame);
+    packet.put_header(way, lv as u8, frame);
     frame[header..length].copy_from_slice(user);
     frame[length..].fill(0);
     Ok(frame.len())
 }
 
-/// Reads a frame: the packet, and its user data where it stands in the frame. Checks 1, 2, 3, 13.
+/// Reads a frame: the packet, and its user data where it stands in the frame; of a ROUTE all that
+/// follows RTL. Checks 1, 2, 3, 13.
 ///
 /// The position of a fault is the frame's length for 2, the first wrong byte for 3, and the form's
 /// largest size for 13.
 #[inline(always)] // into every caller, those that ask for the position alone too
 pub fn read(form: Form, frame: &[u8]) -> Result<(Packet, &[u8]), Fault> {
     let sizes = form.sizes()?;
-    if frame.is_empty() || !frame.len().is_multiple_of(sizes.segment) {
+    let (Some(front), 0) = (frame.first_chunk::<FRONT>(), frame.len() % sizes.segment) else {
         return Err(Refusal::Malformed.at(frame.len()));
-    }
-    match frame[0] {
-        0x80.. => read_data(sizes, frame),
-        CLEAR_REQUEST => read_clear_request(sizes, frame),
-        CLEAR_CONFIRMATION => read_clear_confirmation(sizes, frame),
+    };
+    let (way, whole) = (form.way(), Whole { sizes, frame });
+    match front[0] {
+        DATA.. => whole.with_user(Packet::Data, Ok(Data::read(front))),
+        INTERRUPT => whole.with_user(Packet::Interrupt, Ok(Interrupt::read(front))),
+        CLEAR_REQUEST => whole.with_user(Packet::ClearRequest, ClearRequest::read(front)),
+        CALL_REQUEST => whole.with_user(Packet::CallRequest, CallRequest::read(way, front)),
+        CALL_ACCEPT => whole.with_user(Packet::CallAccept, CallAccept::read(way, front)),
+        CLEAR_CONFIRMATION => whole.alone(
+            Packet::ClearConfirmation,
+            Ok(ClearConfirmation::read(front)),
+        ),
+        RECEIVE_READY => whole.alone(Packet::ReceiveReady, Receipt::read(front)),
+        RECEIVE_NOT_READY => whole.alone(Packet::ReceiveNotReady, Receipt::read(front)),
+        REJECT => whole.alone(Packet::Reject, Receipt::read(front)),
+        INTERRUPT_CONFIRMATION => {
+            whole.alone(Packet::InterruptConfirmation, Confirmation::read(front))
+        }
+        RESET => whole.alone(Packet::Reset, Reset::read(front)),
+        RESET_CONFIRMATION => whole.alone(Packet::ResetConfirmation, Confirmation::read(front)),
+        ROUTE..=ROUTE_LAST => route_packet::read(sizes, frame),
         _ => Err(Refusal::FormatError.at(0)),
+    }
+}
+
+/// A frame in whole segments.
+struct Whole<'a> {
+    sizes: Sizes,
+    frame: &'a [u8],
+}
+
+/// Each takes what the header says, or its first byte that is wrong, which is told before all that
+/// comes after the header.
+impl<'a> Whole<'a> {
+    /// A packet whose header ends with LV, and its user data.
+    #[inline]
+    fn with_user<T: Headed>(
+        &self,
+        packet: fn(T) -> Packet,
+        read: Result<T, usize>,
+    ) -> Result<(Packet, &'a [u8]), Fault> {
+        let read = read.map_err(|at| Refusal::FormatError.at(at))?;
+        let user = user_data(self.sizes, self.frame, T::HEADER)?;
+        Ok((packet(read), user))
+    }
+
+    /// A packet that ends with its header, in one segment.
+    #[inline]
+    fn alone<T: Headed>(
+        &self,
+        packet: fn(T) -> Packet,
+        read: Result<T, usize>,
+    ) -> Result<(Packet, &'a [u8]), Fault> {
+        let read = read.map_err(|at| Refusal::FormatError.at(at))?;
+        check_end(self.frame, T::HEADER, self.sizes.segment)?;
+        Ok((packet(read), &self.frame[T::HEADER..T::HEADER]))
     }
 }
 
@@ -284,58 +198,16 @@ pub fn fault(form: Form, frame: &[u8]) -> usize {
     read(form, frame).map_or_else(|fault| fault.at, |_| 0)
 }
 
+/// Checks what comes after a packet of this length that has no LV: its segments are the fewest and
+/// end here, with padding to their end. The first byte past them is wrong whatever it holds, and
+/// padding comes before it.
 #[inline]
-fn read_data(sizes: Sizes, frame: &[u8]) -> Result<(Packet, &[u8]), Fault> {
-    let user = user_data(sizes, frame, DATA_HEADER)?;
-    let packet = Packet::Data {
-        m: frame[0] & 0x40 != 0,
-        sn: frame[0] & 0x3F,
-        ps: frame[1] >> 4,
-        pr: frame[1] & 0x0F,
-        ch: frame[2] >> 4,
-    };
-    Ok((packet, user))
-}
-
-#[inline]
-fn read_clear_request(sizes: Sizes, frame: &[u8]) -> Result<(Packet, &[u8]), Fault> {
-    let last = frame[CLEAR_REQUEST_HEADER - 1];
-    if last & 0x60 != 0 {
-        return Err(Refusal::FormatError.at(CLEAR_REQUEST_HEADER - 1));
-    }
-    let user = user_data(sizes, frame, CLEAR_REQUEST_HEADER)?;
-    let packet = Packet::ClearRequest {
-        tc: frame[1] >> 6,
-        sn: frame[1] & 0x3F,
-        ch: frame[2] >> 4,
-        am: frame[2] & 0x0F,
-        ag: frame[3],
-        cc: frame[4],
-        dc: frame[5],
-        s: last & 0x80 != 0,
-        f: last & 0x10 != 0,
-    };
-    Ok((packet, user))
-}
-
-/// The first byte past the one segment is wrong whatever it holds, and padding comes before it.
-#[inline]
-fn read_clear_confirmation(sizes: Sizes, frame: &[u8]) -> Result<(Packet, &[u8]), Fault> {
-    let at = end_of_zeros(&frame[..sizes.segment], CLEAR_CONFIRMATION_HEADER);
+pub(crate) fn check_end(frame: &[u8], length: usize, segments_end: usize) -> Result<(), Fault> {
+    let at = end_of_zeros(&frame[..segments_end], length);
     if at < frame.len() {
         return Err(Refusal::FormatError.at(at));
     }
-    let packet = Packet::ClearConfirmation {
-        tc: frame[1] >> 6,
-        sn: frame[1] & 0x3F,
-        ch: frame[2] >> 4,
-        am: frame[2] & 0x0F,
-        ag: frame[3],
-    };
-    Ok((
-        packet,
-        &frame[CLEAR_CONFIRMATION_HEADER..CLEAR_CONFIRMATION_HEADER],
-    ))
+    Ok(())
 }
 
 /// The user data of a frame whose header ends with LV; checks LV and padding (3), then the
@@ -371,20 +243,20 @@ fn end_of_zeros(bytes: &[u8], start: usize) -> usize {
 mod tests {
     use super::*;
 
-    const DATA: Packet = Packet::Data {
+    const NO_DATA: Packet = Packet::Data(Data {
         m: false,
         sn: 0,
         ps: 0,
         pr: 0,
         ch: 0,
-    };
-    const CONFIRMATION: Packet = Packet::ClearConfirmation {
+    });
+    const CONFIRMATION: Packet = Packet::ClearConfirmation(ClearConfirmation {
         tc: 0,
         sn: 9,
         ch: 3,
         am: 2,
         ag: 0x41,
-    };
+    });
     const LONG: Form = Form::LongUplink;
 
     /// A frame that begins so and goes on with zeros.
@@ -397,26 +269,29 @@ mod tests {
     #[test]
     fn lv_of_a_full_segment_is_its_size() {
         let mut out = [0xEE; 20];
-        assert_eq!(write(LONG, &DATA, &[1; 7], &mut out), Ok(10));
+        assert_eq!(write(LONG, &NO_DATA, &[1; 7], &mut out), Ok(10));
         assert_eq!(out[2], 0x0A);
         assert_eq!(out[10..], [0xEE; 10]);
-        assert_eq!(write(LONG, &DATA, &[1; 8], &mut out), Ok(20));
+        assert_eq!(write(LONG, &NO_DATA, &[1; 8], &mut out), Ok(20));
         assert_eq!((out[2], &out[11..]), (1, &[0; 9][..]));
-        assert_eq!(lay_out(Form::ShortUplink, &DATA, &[1; 4], &mut out), Ok(7));
+        assert_eq!(
+            lay_out(Form::ShortUplink, &NO_DATA, &[1; 4], &mut out),
+            Ok(7)
+        );
         assert_eq!(out[2], 7);
     }
 
     #[test]
     fn the_largest_long_uplink_packet_fills_160_bytes_in_part() {
         let mut out = [0xEE; 160];
-        assert_eq!(write(LONG, &DATA, &[7; 149], &mut out), Ok(160));
-        assert_eq!(read(LONG, &out), Ok((DATA, &[7; 149][..])));
+        assert_eq!(write(LONG, &NO_DATA, &[7; 149], &mut out), Ok(160));
+        assert_eq!(read(LONG, &out), Ok((NO_DATA, &[7; 149][..])));
         for lv in 3..=10 {
             let frame = zeros_after(&[0x80, 0, lv], 160);
             assert_eq!(read(LONG, &frame), Err(Refusal::PacketTooLong.at(152)));
         }
         assert_eq!(
-            write(LONG, &DATA, &[7; 150], &mut out),
+            write(LONG, &NO_DATA, &[7; 150], &mut out),
             Err(Refusal::PacketTooLong)
         );
     }
@@ -432,24 +307,24 @@ mod tests {
 
     #[test]
     fn writing_order() {
-        let wide = Packet::Data {
+        let wide = Packet::Data(Data {
             m: false,
             sn: 64,
             ps: 0,
             pr: 0,
             ch: 0,
-        };
+        });
         assert_eq!(
             write(LONG, &wide, &[0; 200], &mut []),
             Err(Refusal::OutOfRange)
         );
         assert_eq!(
-            write(LONG, &DATA, &[0; 200], &mut []),
+            write(LONG, &NO_DATA, &[0; 200], &mut []),
             Err(Refusal::PacketTooLong)
         );
         let mut out = [0xEE; 9];
         assert_eq!(
-            write(LONG, &DATA, &[], &mut out),
+            write(LONG, &NO_DATA, &[], &mut out),
             Err(Refusal::OutputTooShort)
         );
         assert_eq!(out, [0xEE; 9]);
@@ -475,7 +350,7 @@ mod tests {
             Err(Refusal::FormatError.at(2))
         );
         let two = zeros_after(&[0x80, 0, 2], 20);
-        assert_eq!(read(LONG, &two), Ok((DATA, &[0; 9][..])));
+        assert_eq!(read(LONG, &two), Ok((NO_DATA, &[0; 9][..])));
         let short = zeros_after(&[0x80, 0, 8], 14);
         assert_eq!(
             read(Form::ShortUplink, &short),
@@ -492,63 +367,6 @@ mod tests {
             let mut frame = frame[..10].to_vec();
             frame[at] = 1;
             assert_eq!(read(LONG, &frame), Err(Refusal::FormatError.at(at)));
-        }
-    }
-
-    #[test]
-    fn fill_and_unknown_first_bits() {
-        let front = [0x58, 9, 0x32, 0x41, 0x8D, 0xA2, 0x07];
-        assert!(read(LONG, &zeros_after(&front, 10)).is_ok());
-        for first in (0..0x80).filter(|&byte| byte != 0x58 && byte != 0x5C) {
-            let mut frame = zeros_after(&front, 10);
-            frame[0] = first;
-            assert_eq!(read(LONG, &frame), Err(Refusal::FormatError.at(0)));
-        }
-        for last in [0x27, 0x47, 0x67, 0x06, 0x0B] {
-            let mut frame = zeros_after(&front, 10);
-            frame[6] = last;
-            assert_eq!(read(LONG, &frame), Err(Refusal::FormatError.at(6)));
-        }
-    }
-
-    #[test]
-    fn a_packet_s_bytes_and_back() {
-        for bytes in [
-            [0, 1, 5, 3, 2, 4, 0, 0, 0, 0],
-            [1, 3, 63, 15, 14, 255, 141, 162, 1, 0],
-            [2, 3, 63, 15, 14, 255, 0, 0, 0, 0],
-        ] {
-            assert_eq!(Packet::from_bytes(&bytes).unwrap().to_bytes(), bytes);
-        }
-        for bad in [
-            [3, 0, 0, 0, 0, 0, 0, 0, 0, 0],
-            [0, 2, 0, 0, 0, 0, 0, 0, 0, 0],
-            [1, 0, 0, 0, 0, 0, 0, 0, 2, 0],
-            [1, 0, 0, 0, 0, 0, 0, 0, 0, 2],
-        ] {
-            assert_eq!(Packet::from_bytes(&bad), Err(Refusal::OutOfRange));
-        }
-    }
-
-    #[test]
-    fn a_packet_has_ten_bytes() {
-        for length in (0..=20).filter(|&length| length != PACKET_BYTES) {
-            let bytes = vec![0; length];
-            assert_eq!(Packet::from_bytes(&bytes), Err(Refusal::OutOfRange));
-        }
-    }
-
-    #[test]
-    fn bytes_without_a_field_are_0() {
-        for kind in [0, 2] {
-            for at in 6..PACKET_BYTES {
-                for bit in 0..8 {
-                    let mut bytes = [kind, 1, 5, 3, 2, 4, 0, 0, 0, 0];
-                    assert!(Packet::from_bytes(&bytes).is_ok());
-                    bytes[at] = 1 << bit;
-                    assert_eq!(Packet::from_bytes(&bytes), Err(Refusal::OutOfRange));
-                }
-            }
         }
     }
 

@@ -5,11 +5,13 @@
 //! A list for results that is too short is refused with 5; a list that has to hold a state and has
 //! another length is refused with 14.
 
-use crate::frame::{self, Form, Packet, PACKET_BYTES};
+use crate::frame::{self, Form};
 use crate::message::{self, Start};
 use crate::packed::{self, answer, last_used};
+use crate::packet::{Packet, PACKET_BYTES};
 use crate::resequencer::{Answer, Resequencer};
 use crate::route::{self, Table};
+use crate::route_packet;
 use crate::window::{Receiver, Sender};
 use crate::Refusal;
 
@@ -35,7 +37,7 @@ fn put<const N: usize>(bytes: [u8; N], list: &mut [u8]) -> Result<(), Refusal> {
 
 impl State for Sender {
     fn held_by(list: &[u8]) -> Result<Self, Refusal> {
-        fixed(list).map(Sender::from_bytes)
+        fixed(list).and_then(Sender::from_bytes)
     }
 
     fn put(&self, list: &mut [u8]) -> Result<(), Refusal> {
@@ -131,6 +133,21 @@ pub fn sender_acknowledge(state: &mut [u8], pr: u8) -> u64 {
     answer(&done, |()| 0)
 }
 
+pub fn sender_ready(state: &mut [u8], pr: u8) -> u64 {
+    let done = on_state(state, |end: &mut Sender| end.ready(pr));
+    answer(&done, |()| 0)
+}
+
+pub fn sender_not_ready(state: &mut [u8], pr: u8) -> u64 {
+    let done = on_state(state, |end: &mut Sender| end.not_ready(pr));
+    answer(&done, |()| 0)
+}
+
+pub fn sender_reject(state: &mut [u8], pr: u8) -> u64 {
+    let done = on_state(state, |end: &mut Sender| end.reject(pr));
+    answer(&done, |()| 0)
+}
+
 pub fn receiver_fresh(state: &mut [u8]) -> u64 {
     fresh(Receiver::fresh(), state)
 }
@@ -176,6 +193,29 @@ pub fn frame_write(form: u8, packet: &[u8], user: &[u8], out: &mut [u8]) -> u64 
         frame::write(form, &packet, user, out)
     });
     answer(&length, |&length| length as u64)
+}
+
+/// The two flags are numbers here, and without the optional data there is none to lend: all else is
+/// 1, as a wrong form is.
+pub fn route_write(form: u8, init: u8, of: u8, table: &[u8], data: &[u8], out: &mut [u8]) -> u64 {
+    let length = Form::from_number(form).and_then(|form| {
+        let init = flag(init)?;
+        let data = match (flag(of)?, data) {
+            (true, data) => Some(data),
+            (false, []) => None,
+            (false, _) => return Err(Refusal::OutOfRange),
+        };
+        route_packet::write(form, init, table, data, out)
+    });
+    answer(&length, |&length| length as u64)
+}
+
+fn flag(byte: u8) -> Result<bool, Refusal> {
+    match byte {
+        0 => Ok(false),
+        1 => Ok(true),
+        _ => Err(Refusal::OutOfRange),
+    }
 }
 
 /// The places for the packet are looked at last, after all that the frame can be refused for.
@@ -256,9 +296,12 @@ mod tests {
 
     #[test]
     fn in_order_answers_0_or_14() {
-        assert_eq!(sender_in_order(&[15, 15]), 0);
-        assert_eq!(sender_in_order(&[15, 16]), 14);
-        assert_eq!(sender_in_order(&[15]), 14);
+        assert_eq!(sender_in_order(&[15, 15, 0]), 0);
+        assert_eq!(sender_in_order(&[15, 15, 1]), 0);
+        assert_eq!(sender_in_order(&[15, 15, 2]), 14);
+        assert_eq!(sender_in_order(&[15, 16, 0]), 14);
+        assert_eq!(sender_in_order(&[15, 15]), 14);
+        assert_eq!(sender_in_order(&[15, 15, 0, 0]), 14);
         assert_eq!(receiver_in_order(&[0, 1, 0]), 0);
         assert_eq!(receiver_in_order(&[0, 2, 0]), 14);
         assert_eq!(receiver_in_order(&[1, 1, 0]), 14);
@@ -304,6 +347,42 @@ mod tests {
         assert_eq!(frame_write(17, &[0; 10], &[0; 200], &mut []), 13);
         assert_eq!(frame_write(17, &[0; 10], &[], &mut out), 10 << 8);
         assert_eq!(out, GOOD);
+    }
+
+    #[test]
+    fn a_route_s_flags_and_data() {
+        let mut out = [7; 20];
+        let mut write = |form, init, of, data: &[u8]| {
+            let answer = route_write(form, init, of, &[8, 0x12], data, &mut out);
+            (answer, out)
+        };
+        let refused = [
+            (18, 0, 0, &[][..]),
+            (17, 2, 0, &[]),
+            (17, 0, 2, &[]),
+            (17, 0, 0, &[9]),
+        ];
+        for (form, init, of, data) in refused {
+            assert_eq!(write(form, init, of, data), (1, [7; 20]));
+            assert_eq!(route_write(0, init, of, &[1; 300], data, &mut []) & 1, 1);
+        }
+        assert_eq!(write(0, 1, 1, &[9]), (23, [7; 20]));
+        assert_eq!(write(1, 1, 1, &[9; 6]), (13, [7; 20]));
+        let (answer, out) = write(17, 0, 1, &[]);
+        assert_eq!(
+            (answer, &out[..11]),
+            (10 << 8, &[0x72, 2, 8, 0x12, 0, 0, 0, 0, 0, 0, 7][..])
+        );
+    }
+
+    #[test]
+    fn the_packet_of_a_route() {
+        let (frame, mut packet) = ([0x73, 2, 8, 0x12, 1, 0xAA, 0, 0, 0, 0], [7; 11]);
+        assert_eq!(frame_read(17, &frame, &mut packet), 4 << 16 | 2 << 8);
+        assert_eq!(packet, [12, 1, 1, 2, 0, 0, 0, 0, 0, 0, 7]);
+        packet[10] = 0;
+        assert_eq!(frame_write(17, &packet[..10], &[], &mut [0; 20]), 1);
+        assert_eq!(frame_write(0, &packet[..10], &[0; 300], &mut []), 1);
     }
 
     #[test]

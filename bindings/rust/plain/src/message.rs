@@ -1,8 +1,13 @@
 //! Messages of up to 4,096 bytes, cut into DATA frames and joined again.
 
-use crate::frame::{self, Form, Packet, Sizes, DATA_HEADER};
+use crate::frame::{self, Form, Sizes};
+use crate::header::Headed;
 use crate::number::{link_next, packet_next};
+use crate::packet::{Data, Packet};
 use crate::{Fault, Refusal};
+
+/// The header of each frame.
+const DATA_HEADER: usize = Data::HEADER;
 
 /// The longest message.
 pub const LONGEST: usize = 4096;
@@ -106,7 +111,7 @@ fn fill_frames(
     for (index, length) in lengths.iter_mut().enumerate() {
         let (now, later) = user.split_at(user.len().min(share));
         let m = index < last;
-        let packet = Packet::Data { m, sn, ps, pr, ch };
+        let packet = Packet::Data(Data { m, sn, ps, pr, ch });
         *length = frame::lay_out(form, &packet, now, room)?;
         (user, room) = (later, &mut room[*length..]);
         (sn, ps) = (link_next(sn), packet_next(ps));
@@ -184,7 +189,7 @@ fn check_frame(
     due: &mut Option<Run>,
 ) -> Result<usize, Fault> {
     let (packet, user) = frame::read(form, frame)?;
-    let Packet::Data { m, sn, ps, ch, .. } = packet else {
+    let Packet::Data(Data { m, sn, ps, ch, .. }) = packet else {
         return Err(Refusal::FormatError.at(0));
     };
     if !m && !last {

@@ -1,8 +1,8 @@
 //! Answers as the interface packs them into one number: the refusal's number in the low 8 bits, 0
 //! for done, and the call's values in the bits above, which are 0 after a refusal.
 
-use crate::frame::Packet;
 use crate::message::Cut;
+use crate::packet::Packet;
 use crate::resequencer::Answer;
 use crate::Refusal;
 
@@ -29,7 +29,7 @@ pub fn event(result: &Result<Answer, Refusal>) -> u64 {
     })
 }
 
-/// A frame read: where its user data starts, then how long it is.
+/// A frame read: where its user data starts, then how long it is; of a ROUTE, what follows RTL.
 pub fn reading(result: &Result<(Packet, &[u8]), Refusal>) -> u64 {
     answer(result, |(packet, user)| {
         packet.header_len() as u64 | (user.len() as u64) << 8

@@ -1,7 +1,8 @@
 //! The values that the rules give to check against: P1 to P12, and what is wanted over whole
 //! histories.
 
-use crate::frame::{self, Form, Packet};
+use crate::frame::{self, Form};
+use crate::packet::{ClearConfirmation, ClearRequest, Data, Packet};
 use crate::resequencer::{Outcome, Resequencer, PLACES};
 use crate::route::Table;
 use crate::window::Sender;
@@ -29,11 +30,16 @@ fn at(nesn: u8) -> Resequencer {
 
 #[test]
 fn p1_p2_sending() {
-    assert_eq!(Sender { edge: 9, next: 7 }.send(), Ok(7));
-    assert_eq!(
-        Sender { edge: 9, next: 8 }.send(),
-        Err(Refusal::WindowClosed)
-    );
+    let sent = |next| {
+        let mut end = Sender {
+            edge: 9,
+            next,
+            held_off: false,
+        };
+        end.send()
+    };
+    assert_eq!(sent(7), Ok(7));
+    assert_eq!(sent(8), Err(Refusal::WindowClosed));
 }
 
 #[test]
@@ -83,19 +89,19 @@ fn written(packet: Packet, user: &[u8]) -> Vec<u8> {
 
 #[test]
 fn p9_p10_p11_frames() {
-    let data = Packet::Data {
+    let data = Packet::Data(Data {
         m: true,
         sn: 5,
         ps: 3,
         pr: 2,
         ch: 4,
-    };
+    });
     assert_eq!(
         written(data, &[0xAA; 4]),
         [0xC5, 0x32, 0x47, 0xAA, 0xAA, 0xAA, 0xAA, 0, 0, 0]
     );
     let (tc, sn, ch, am, ag) = (0, 9, 3, 2, 0x41);
-    let request = Packet::ClearRequest {
+    let request = Packet::ClearRequest(ClearRequest {
         tc,
         sn,
         ch,
@@ -105,12 +111,12 @@ fn p9_p10_p11_frames() {
         dc: 162,
         s: false,
         f: false,
-    };
+    });
     assert_eq!(
         written(request, &[]),
         [0x58, 0x09, 0x32, 0x41, 0x8D, 0xA2, 0x07, 0, 0, 0]
     );
-    let confirmation = Packet::ClearConfirmation { tc, sn, ch, am, ag };
+    let confirmation = Packet::ClearConfirmation(ClearConfirmation { tc, sn, ch, am, ag });
     assert_eq!(
         written(confirmation, &[]),
         [0x5C, 0x09, 0x32, 0x41, 0, 0, 0, 0, 0, 0]

@@ -1,24 +1,38 @@
 //! The short form: writing and cutting refuse it with 23, after 1 and before all others; reading
 //! and joining keep it.
 
-use crate::frame::{self, Form, Packet, PACKET_BYTES};
+use crate::frame::{self, Form};
 use crate::message::{self, Start};
+use crate::packet::{Data, Packet, PACKET_BYTES};
 use crate::paper::Random;
-use crate::{lent, Refusal};
+use crate::{lent, route_packet, Refusal};
 
 const SHORT: Form = Form::ShortUplink;
 /// Its number in the interface.
 const NUMBER: u8 = 0;
 const SEGMENT: usize = 7;
 
-/// A packet of each kind as the interface lays it out, with the largest value in every byte; a byte
-/// without a field has 0.
-const LARGEST: [[u8; PACKET_BYTES]; 3] = [
+/// A packet of each kind as the interface lays it out for the uplink, with the largest value in
+/// every byte; a byte without a field has 0. ROUTE is written by a call of its own.
+const LARGEST: [[u8; PACKET_BYTES]; 12] = [
     [0, 1, 63, 15, 15, 15, 0, 0, 0, 0],
     [1, 3, 63, 15, 15, 255, 255, 255, 1, 1],
     [2, 3, 63, 15, 15, 255, 0, 0, 0, 0],
+    [3, 1, 63, 3, 0, 15, 255, 1, 3, 1],  // no CH
+    [4, 0, 63, 15, 15, 255, 1, 1, 0, 0], // no TC
+    [5, 63, 15, 15, 0, 0, 0, 0, 0, 0],
+    [6, 63, 15, 15, 0, 0, 0, 0, 0, 0],
+    [7, 63, 15, 15, 0, 0, 0, 0, 0, 0],
+    [8, 1, 1, 63, 15, 0, 0, 0, 0, 0],
+    [9, 63, 15, 0, 0, 0, 0, 0, 0, 0],
+    [10, 63, 15, 255, 255, 0, 0, 0, 0, 0],
+    [11, 63, 15, 0, 0, 0, 0, 0, 0, 0],
 ];
-const CONFIRMATION: u8 = 2;
+
+/// Whether a kind has user data.
+fn has_user(packet: &[u8; PACKET_BYTES]) -> bool {
+    matches!(packet[0], 0 | 1 | 3 | 4 | 8)
+}
 
 const START: Start = Start {
     sn: 63,
@@ -53,10 +67,10 @@ fn cut(start: Start, length: usize, room: usize, places: usize) -> u64 {
 #[test]
 fn every_kind_is_refused_before_13_and_5() {
     for packet in LARGEST {
-        let lengths = if packet[0] == CONFIRMATION {
-            &[0][..]
+        let lengths = if has_user(&packet) {
+            &[0, 4, 21, 22, 23, 24, 25, 26, 27, 200][..] // 28 bytes are the largest packet
         } else {
-            &[0, 4, 21, 22, 25, 26, 27, 200] // 28 bytes are the largest, with a header of 7 or 3
+            &[0]
         };
         for &length in lengths {
             for room in [0, 6, 7, 27, 28, 300] {
@@ -77,7 +91,7 @@ fn what_exceeds_its_field_is_1_first() {
                 let wanted = if value <= good[at] { 23 } else { 1 };
                 assert_eq!(write(&packet, 0, 28), wanted, "{packet:?}");
                 assert_eq!(write(&packet, 0, 0), wanted, "{packet:?}");
-                let too_long = if good[0] == CONFIRMATION { 1 } else { wanted };
+                let too_long = if has_user(&good) { wanted } else { 1 };
                 assert_eq!(write(&packet, 200, 0), too_long, "{packet:?}");
             }
         }
@@ -85,16 +99,39 @@ fn what_exceeds_its_field_is_1_first() {
 }
 
 #[test]
-fn no_packet_and_user_data_with_a_confirmation_are_1_first() {
-    let none = (3..=255).map(|kind| vec![kind, 0, 0, 0, 0, 0, 0, 0, 0, 0]);
+fn no_packet_and_user_data_with_a_kind_that_has_none_are_1_first() {
+    let none = (12..=255).map(|kind| vec![kind, 0, 0, 0, 0, 0, 0, 0, 0, 0]);
     let other_lengths = (0..=20).filter(|&length| length != PACKET_BYTES);
     for packet in none.chain(other_lengths.map(|length| vec![0; length])) {
         assert_eq!(write(&packet, 0, 28), 1, "{packet:?}");
         assert_eq!(write(&packet, 200, 0), 1, "{packet:?}");
     }
-    for length in [1, 3, 24, 25, 200] {
-        assert_eq!(write(&LARGEST[2], length, 28), 1);
-        assert_eq!(write(&LARGEST[2], length, 0), 1);
+    for packet in LARGEST.iter().filter(|packet| !has_user(packet)) {
+        for length in [1, 3, 24, 25, 200] {
+            assert_eq!(write(packet, length, 28), 1);
+            assert_eq!(write(packet, length, 0), 1);
+        }
+    }
+}
+
+/// A ROUTE is refused with 23 after 1, and before 13 and 5.
+#[test]
+fn a_route_is_refused_as_the_others_are() {
+    for (table, data) in [(0, 0), (26, 0), (27, 0), (20, 5), (256, 0), (3, 256)] {
+        for room in [0, 7, 28, 300] {
+            let mut out = vec![0xEE; room];
+            let (table, data) = (vec![1; table], vec![2; data]);
+            let mut write = |form, init, of| {
+                let answer = lent::route_write(form, init, of, &table, &data, &mut out);
+                assert!(out.iter().all(|&byte| byte == 0xEE));
+                answer
+            };
+            assert_eq!(write(NUMBER, 0, 1), 23);
+            assert_eq!(write(NUMBER, 2, 1), 1);
+            assert_eq!(write(NUMBER, 0, 2), 1);
+            assert_eq!(write(18, 0, 1), 1);
+            assert_eq!(write(NUMBER, 1, 0), if data.is_empty() { 23 } else { 1 });
+        }
     }
 }
 
@@ -105,10 +142,15 @@ fn other_forms_are_written_and_cut_or_1() {
         let done = form <= 17;
         let wanted = |length| if done { length } else { 1 };
         let mut out = [0xEE; 20];
-        for packet in LARGEST {
+        for mut packet in LARGEST {
+            if packet[0] == 3 {
+                packet[3] = 0; // no TC on the downlink
+            }
             let written = lent::frame_write(form, &packet, &[], &mut out);
             assert_eq!(written, wanted(10 << 8), "form {form}");
         }
+        let written = lent::route_write(form, 1, 1, &[1; 3], &[2; 4], &mut out);
+        assert_eq!(written, wanted(10 << 8), "form {form}");
         let cut = lent::message_cut(form, START, &[], &mut out, &mut [0]);
         assert_eq!(cut, wanted(10 << 32 | 1 << 8), "form {form}");
         let written = lent::frame_write(form, &LARGEST[0], &[0; 200], &mut []);
@@ -158,12 +200,12 @@ fn every_short_frame_is_read() {
     for bytes in LARGEST {
         let packet = Packet::from_bytes(&bytes).unwrap();
         let header = packet.header_len();
-        let largest = if bytes[0] == CONFIRMATION { header } else { 28 };
+        let largest = if has_user(&bytes) { 28 } else { header };
         for length in header..=largest {
             let user: Vec<u8> = (0..length - header).map(|at| 0x81 + at as u8).collect();
             let frame = short_frame(&packet, &user);
             assert_eq!(frame.len(), length.next_multiple_of(SEGMENT));
-            if bytes[0] != CONFIRMATION {
+            if has_user(&bytes) {
                 let lv = usize::from(frame[header - 1] & 15);
                 assert_eq!(lv, (length - 1) % SEGMENT + 1);
             }
@@ -174,6 +216,26 @@ fn every_short_frame_is_read() {
             assert_eq!(answer, values << 8);
             assert_eq!(places[..PACKET_BYTES], bytes);
             assert_eq!(places[PACKET_BYTES..], [0xEE; 2]);
+        }
+    }
+}
+
+/// Every length of table and optional data that the largest packet leaves.
+#[test]
+fn every_short_route_is_read() {
+    for table in 0..=26 {
+        let present = (0..26 - table).map(Some);
+        for data in present.chain([None]) {
+            let (table, data) = (vec![0x81; table], data.map(|length| vec![0x92; length]));
+            let mut frame = vec![0xEE; 28];
+            let made = route_packet::lay_out(SHORT, true, &table, data.as_deref(), &mut frame);
+            frame.truncate(made.unwrap());
+            let (packet, rest) = frame::read(SHORT, &frame).unwrap();
+            let of = u8::from(data.is_some());
+            let bytes = [12, of, 1, table.len() as u8, 0, 0, 0, 0, 0, 0];
+            assert_eq!(packet.to_bytes(), bytes);
+            assert_eq!(rest[..table.len()], table);
+            assert_eq!(rest.get(1 + table.len()..), data.as_deref());
         }
     }
 }
@@ -214,13 +276,13 @@ fn short_run(random: &mut Random, count: usize) -> (Vec<usize>, Vec<u8>, Vec<u8>
     let (mut lengths, mut frames, mut message) = (Vec::new(), Vec::new(), Vec::new());
     let first = random.below(64) as usize;
     for index in 0..count {
-        let packet = Packet::Data {
+        let packet = Packet::Data(Data {
             m: index + 1 < count,
             sn: ((first + index) % 64) as u8,
             ps: ((first + index) % 16) as u8,
             pr: random.below(16) as u8,
             ch: 9,
-        };
+        });
         let user: Vec<u8> = (0..random.below(26)).map(|at| at as u8 + 1).collect();
         let frame = short_frame(&packet, &user);
         lengths.push(frame.len());

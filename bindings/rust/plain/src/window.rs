@@ -13,19 +13,31 @@ const DUE: u8 = 8;
 pub struct Sender {
     pub edge: u8,
     pub next: u8,
+    /// Stands from an RNR until an RR or a REJECT.
+    pub held_off: bool,
 }
 
 impl Sender {
     pub fn fresh() -> Self {
-        Sender { edge: 0, next: 0 }
+        Sender {
+            edge: 0,
+            next: 0,
+            held_off: false,
+        }
     }
 
-    pub fn from_bytes([edge, next]: [u8; 2]) -> Self {
-        Sender { edge, next }
+    /// Refuses a mark that is neither 0 nor 1, which is no state at all.
+    pub fn from_bytes([edge, next, mark]: [u8; 3]) -> Result<Self, Refusal> {
+        let held_off = mark_of(mark)?;
+        Ok(Sender {
+            edge,
+            next,
+            held_off,
+        })
     }
 
-    pub fn to_bytes(self) -> [u8; 2] {
-        [self.edge, self.next]
+    pub fn to_bytes(self) -> [u8; 3] {
+        [self.edge, self.next, u8::from(self.held_off)]
     }
 
     #[inline]
@@ -39,7 +51,7 @@ impl Sender {
         if !self.in_order() {
             return Err(Refusal::NotInOrder);
         }
-        if packet_distance(self.edge, self.next) > 14 {
+        if self.held_off || packet_distance(self.edge, self.next) > 14 {
             return Err(Refusal::WindowClosed);
         }
         let ps = self.next;
@@ -47,7 +59,7 @@ impl Sender {
         Ok(ps)
     }
 
-    /// Takes a PR that came in.
+    /// Takes a PR that came in with DATA; whether the end is held off stays as it was.
     #[inline]
     pub fn acknowledge(&mut self, pr: u8) -> Result<(), Refusal> {
         if !self.in_order() {
@@ -61,6 +73,39 @@ impl Sender {
         }
         self.edge = pr;
         Ok(())
+    }
+
+    /// Takes an RR by its PR: the end is no longer held off.
+    #[inline]
+    pub fn ready(&mut self, pr: u8) -> Result<(), Refusal> {
+        self.acknowledge(pr)?;
+        self.held_off = false;
+        Ok(())
+    }
+
+    /// Takes an RNR by its PR: the end is held off.
+    #[inline]
+    pub fn not_ready(&mut self, pr: u8) -> Result<(), Refusal> {
+        self.acknowledge(pr)?;
+        self.held_off = true;
+        Ok(())
+    }
+
+    /// Takes a REJECT by its PR: the end is no longer held off, and the next PS stays as it was.
+    #[inline]
+    pub fn reject(&mut self, pr: u8) -> Result<(), Refusal> {
+        self.acknowledge(pr)?;
+        self.held_off = false;
+        Ok(())
+    }
+}
+
+/// What a byte says that holds a mark.
+fn mark_of(byte: u8) -> Result<bool, Refusal> {
+    match byte {
+        0 => Ok(false),
+        1 => Ok(true),
+        _ => Err(Refusal::NotInOrder),
     }
 }
 
@@ -85,11 +130,7 @@ impl Receiver {
 
     /// Refuses a mark that is neither 0 nor 1, which is no state at all.
     pub fn from_bytes([expected, mark, count]: [u8; 3]) -> Result<Self, Refusal> {
-        let mark = match mark {
-            0 => false,
-            1 => true,
-            _ => return Err(Refusal::NotInOrder),
-        };
+        let mark = mark_of(mark)?;
         Ok(Receiver {
             expected,
             mark,
@@ -151,6 +192,64 @@ impl Receiver {
 mod tests {
     use super::*;
 
+    /// A sending end that is not held off.
+    fn open(edge: u8, next: u8) -> Sender {
+        Sender {
+            edge,
+            next,
+            held_off: false,
+        }
+    }
+
+    fn held(edge: u8, next: u8) -> Sender {
+        Sender {
+            held_off: true,
+            ..open(edge, next)
+        }
+    }
+
+    /// Edge 3, next 6, held off: what each packet's PR does.
+    #[test]
+    fn rnr_holds_off_until_rr_or_reject() {
+        let mut end = open(3, 6);
+        assert_eq!(end.not_ready(3), Ok(()));
+        assert_eq!(end, held(3, 6));
+        assert_eq!(end.send(), Err(Refusal::WindowClosed));
+        assert_eq!(end.ready(7), Err(Refusal::NeverSent));
+        assert_eq!(end.reject(2), Err(Refusal::NeverSent));
+        assert_eq!(end.ready(16), Err(Refusal::OutOfRange));
+        assert_eq!(end, held(3, 6));
+        assert_eq!(end.acknowledge(5), Ok(()));
+        assert_eq!(end, held(5, 6));
+        let mut other = end;
+        assert_eq!(end.reject(5), Ok(()));
+        assert_eq!(end, open(5, 6));
+        assert_eq!(end.send(), Ok(6));
+        assert_eq!(other.not_ready(6), Ok(()));
+        assert_eq!(other, held(6, 6));
+        assert_eq!(other.ready(6), Ok(()));
+        assert_eq!(other.send(), Ok(6));
+    }
+
+    #[test]
+    fn a_refused_rnr_does_not_hold_off() {
+        let mut end = open(3, 6);
+        assert_eq!(end.not_ready(7), Err(Refusal::NeverSent));
+        assert_eq!(end.not_ready(99), Err(Refusal::OutOfRange));
+        assert_eq!(end, open(3, 6));
+    }
+
+    /// Held off and closed are the same refusal; lifting the one leaves the other.
+    #[test]
+    fn held_off_and_closed() {
+        let mut end = held(9, 8);
+        assert_eq!(end.send(), Err(Refusal::WindowClosed));
+        assert_eq!(end.ready(9), Ok(()));
+        assert_eq!(end.send(), Err(Refusal::WindowClosed));
+        assert_eq!(end.reject(10), Ok(()));
+        assert_eq!(end.send(), Ok(8));
+    }
+
     #[test]
     fn fifteen_packets_may_be_out() {
         let mut end = Sender::fresh();
@@ -165,20 +264,23 @@ mod tests {
 
     #[test]
     fn pr_may_be_edge_and_next_and_no_further() {
-        let mut end = Sender { edge: 14, next: 2 };
+        let mut end = open(14, 2);
         assert_eq!(end.acknowledge(3), Err(Refusal::NeverSent));
         assert_eq!(end.acknowledge(13), Err(Refusal::NeverSent));
         assert_eq!(end.acknowledge(14), Ok(()));
         assert_eq!(end.acknowledge(2), Ok(()));
-        assert_eq!(end, Sender { edge: 2, next: 2 });
+        assert_eq!(end, open(2, 2));
         assert_eq!(end.acknowledge(16), Err(Refusal::OutOfRange));
     }
 
     #[test]
     fn bad_order_is_said_first() {
-        let mut end = Sender { edge: 16, next: 0 };
+        let mut end = open(16, 0);
         assert_eq!(end.acknowledge(99), Err(Refusal::NotInOrder));
-        assert_eq!(end, Sender { edge: 16, next: 0 });
+        assert_eq!(end.ready(99), Err(Refusal::NotInOrder));
+        assert_eq!(end.not_ready(99), Err(Refusal::NotInOrder));
+        assert_eq!(end.reject(99), Err(Refusal::NotInOrder));
+        assert_eq!(end, open(16, 0));
         let mut end = Receiver {
             expected: 1,
             mark: true,
@@ -227,5 +329,10 @@ mod tests {
     fn a_mark_is_0_or_1() {
         assert_eq!(Receiver::from_bytes([0, 2, 0]), Err(Refusal::NotInOrder));
         assert_eq!(Receiver::from_bytes([0, 1, 0]), Ok(Receiver::fresh()));
+        assert_eq!(Sender::from_bytes([0, 0, 0]), Ok(Sender::fresh()));
+        assert_eq!(Sender::from_bytes([3, 6, 1]), Ok(held(3, 6)));
+        for mark in 2..=255 {
+            assert_eq!(Sender::from_bytes([3, 6, mark]), Err(Refusal::NotInOrder));
+        }
     }
 }

@@ -4,14 +4,17 @@
 //! position of the bad one is counted from its start.
 
 use pepperknoll::raw;
-use plain::frame::{Form, Sizes, PACKET_BYTES};
+use plain::frame::{Form, Sizes};
+use plain::packet::PACKET_BYTES;
 
 use crate::frames::{check_read, plain_read, Bed, SHORT};
+use crate::kinds::{Kind, KINDS, OTHER_FRAMES};
 use crate::messages::{self, run_of_frames, Joining};
 use crate::support::{by_place, say, Call, Lent, Random, Trial};
 
 pub fn run(trial: &mut Trial) {
     worked_examples(trial);
+    examples_of_other_kinds(trial);
     every_two_padding_bytes(trial);
     damaged(trial);
     nothing_after_the_fault_matters(trial);
@@ -40,11 +43,7 @@ const CONFIRMATION: u8 = 0x5C;
 
 /// The byte with LV, the last of the header, where the kind that the first byte names has one.
 fn lv_place(first: u8) -> Option<usize> {
-    match first {
-        0x80.. => Some(2),
-        REQUEST => Some(6),
-        _ => None,
-    }
+    Kind::of(first).and_then(Kind::lv_place)
 }
 
 fn zeros_after(front: &[u8], length: usize) -> Vec<u8> {
@@ -102,23 +101,64 @@ fn worked_examples(trial: &mut Trial) {
     }
 }
 
+/// A form, how a frame begins, its length, and the refusal and position that the rules give it.
+type Example = (u8, &'static [u8], usize, (u8, usize));
+
+/// The same of the other kinds.
+#[rustfmt::skip]
+const OF_OTHER_KINDS: [Example; 20] = [
+    (LONG, &[0x60, 5, 0x37], 10, (0, 0)),
+    (LONG, &[0x60, 5, 0x37], 20, (3, 10)),
+    (LONG, &[0x60, 5, 0x37, 0, 0, 0, 0, 0, 0, 1], 20, (3, 9)),
+    (LONG, &[0x60, 0xC5, 0x37], 10, (3, 1)),
+    (1, &[0x54, 0x45, 0x32, 0x41, 0x15], 10, (0, 0)),
+    (1, &[0x54, 0x45, 0x32, 0x41, 0x45], 10, (3, 4)),
+    (LONG, &[0x54, 0x45, 0x32, 0x41, 0x05], 10, (3, 1)),
+    (1, &[0x50, 0x85, 0xF2, 0x41, 0x65], 10, (0, 0)),
+    (LONG, &[0x50, 0x85, 0xF2, 0x41, 0x65], 10, (3, 2)),
+    (1, &[0x50, 0xC5, 0x32, 0x41, 0x05], 10, (3, 1)),
+    (1, &[0x50, 0x85, 0x32, 0x41, 0x04], 10, (3, 4)),
+    (1, &[0x50, 0x85, 0x32, 0x41, 0x04], 20, (13, 10)),
+    (LONG, &[0x74, 0x05, 0x34, 0xAA], 10, (0, 0)),
+    (LONG, &[0x74, 0x05, 0x32], 10, (3, 2)),
+    (LONG, &[0x75, 0x05, 0x34, 0xAA], 10, (3, 0)),
+    (LONG, &[0x68, 0x05, 0x31, 1, 2], 10, (3, 2)),
+    (LONG, &[0x7C, 0x05, 0x38], 10, (3, 2)),
+    (LONG, &[0x7E, 0x05, 0x30], 10, (3, 0)),
+    (LONG, &[0x78, 0x05, 0x30], 10, (3, 0)),
+    (LONG, &[0x4F, 0x05, 0x30], 10, (3, 0)),
+];
+
+fn examples_of_other_kinds(trial: &mut Trial) {
+    let (mut bed, mut lent) = (Bed::new(), Lent::new());
+    for (form, front, length, wanted) in OF_OTHER_KINDS {
+        let frame = zeros_after(front, length);
+        assert_eq!(told(&mut lent, form, &frame), wanted, "{frame:x?}");
+        check_read(trial, &mut bed, form, &frame);
+    }
+}
+
 /// Each LV in each number of segments of every form, with each two padding bytes wrong, also where
 /// both are the same one.
 fn every_two_padding_bytes(trial: &mut Trial) {
-    let most = trial.times(5, 18) as usize;
+    let most = trial.times(3, 18) as usize;
     for form in 0..FORMS {
         let segment = sizes(form).segment;
-        for front in [&[0x80, 0, 0][..], &[REQUEST, 0, 0, 0, 0, 0, 0]] {
+        for kind in &KINDS {
+            let Some(place) = kind.lv_place() else {
+                let good = zeros_after(&[kind.first], segment);
+                two_padding_bytes(trial, form, &good, kind.header);
+                continue;
+            };
             for (segments, lv) in (1..=most).flat_map(|s| (1..=segment).map(move |lv| (s, lv))) {
                 let packet = segment * (segments - 1) + lv;
-                if packet >= front.len() {
-                    let mut good = zeros_after(front, segment * segments);
-                    good[front.len() - 1] = lv as u8;
+                if packet > place {
+                    let mut good = zeros_after(&[kind.first], segment * segments);
+                    good[place] = lv as u8;
                     two_padding_bytes(trial, form, &good, packet);
                 }
             }
         }
-        two_padding_bytes(trial, form, &zeros_after(&[CONFIRMATION], segment), 4);
     }
 }
 
@@ -139,28 +179,29 @@ fn two_padding_bytes(trial: &mut Trial, form: u8, good: &[u8], start: usize) {
 
 /// A frame before it is damaged: it reads, or its packet is too long for the form.
 fn some_frame(random: &mut Random, form: u8) -> Vec<u8> {
+    match random.below(KINDS.len() + OTHER_FRAMES.len()) {
+        at if at < KINDS.len() => frame_of_kind(random, form, &KINDS[at]),
+        at => OTHER_FRAMES[at - KINDS.len()](random, form),
+    }
+}
+
+fn frame_of_kind(random: &mut Random, form: u8, kind: &Kind) -> Vec<u8> {
     let Sizes { segment, largest } = sizes(form);
-    let first = random.pick(&[0x80, 0x80, REQUEST, REQUEST, CONFIRMATION]);
     let full = largest.div_ceil(segment);
     let segments = match random.below(5) {
-        _ if first == CONFIRMATION => 1,
+        _ if !kind.has_user => 1,
         0 => full + random.below(3),
         1 => 1 + random.below(full),
         _ => 1 + random.below(full.min(3)),
     };
-    let mut frame = random.bytes(segment * segments);
-    frame[0] = match first {
-        0x80.. => frame[0] | 0x80, // any M and SN
-        _ => first,
-    };
-    let Some(place) = lv_place(first) else {
-        frame[4..].fill(0);
+    let mut frame = kind.some_front(random, form, segment * segments);
+    let Some(place) = kind.lv_place() else {
+        frame[kind.header..].fill(0);
         return frame;
     };
-    let least = if segments == 1 { place + 1 } else { 1 };
+    let least = if segments == 1 { kind.header } else { 1 };
     let lv = least + random.below(segment + 1 - least);
-    let fixed = if first == REQUEST { 0x90 } else { 0xF0 };
-    frame[place] = frame[place] & fixed | lv as u8;
+    frame[place] = frame[place] & 0xF0 | lv as u8;
     let packet = segment * (segments - 1) + lv;
     frame[packet..].fill(0);
     frame
@@ -178,21 +219,41 @@ fn damage(random: &mut Random, form: u8, frame: &mut Vec<u8>) {
     let at = random.below(frame.len());
     let back = 1 + random.below(frame.len().min(segment));
     let near_end = frame.len() - back;
-    match random.below(12) {
+    match random.below(13) {
         0 => frame[0] = random.byte() & 0x7F,
         1 => frame[0] ^= 1 << random.below(7),
-        2 => frame[at.min(6)] |= random.pick(&[0x20, 0x40, 0x60]),
-        3 => frame[lv.unwrap_or(at)] ^= 1 << random.below(4),
-        4 => frame[lv.unwrap_or(at)] &= random.pick(&[0xF0, 0xF1, 0xF6]),
-        5 | 6 => frame[near_end] = 1 << random.below(8),
-        7 => *frame.last_mut().expect("it is not empty") = random.byte(),
-        8 => frame.extend(vec![0; segment * (1 + random.below(2))]),
-        9 => frame.extend(random.bytes(segment)),
-        10 => match random.below(2) {
+        2 | 3 => damage_fill(random, form, frame),
+        4 => frame[lv.unwrap_or(at)] ^= 1 << random.below(4),
+        5 => frame[lv.unwrap_or(at)] &= random.pick(&[0xF0, 0xF1, 0xF4, 0xF6]),
+        6 | 7 => frame[near_end] = 1 << random.below(8),
+        8 => *frame.last_mut().expect("it is not empty") = random.byte(),
+        9 => frame.extend(vec![0; segment * (1 + random.below(2))]),
+        10 => frame.extend(random.bytes(segment)),
+        11 => match random.below(2) {
             0 => frame.truncate(at),
             _ => frame.extend(vec![0; 1 + random.below(segment)]),
         },
         _ => frame[at] = random.byte(),
+    }
+}
+
+/// Sets a bit of the fill, if the kind has any; else any bit of the header.
+fn damage_fill(random: &mut Random, form: u8, frame: &mut [u8]) {
+    let bits: Vec<(usize, u8)> = match Kind::of(frame[0]) {
+        Some(kind) => (0..kind.header)
+            .flat_map(|at| (0..8).map(move |bit| (at, 1 << bit)))
+            .filter(|&(at, bit)| kind.fill_at(form, at) & bit != 0)
+            .collect(),
+        None => Vec::new(),
+    };
+    let any = (random.below(7), 1 << random.below(8));
+    let (at, bit) = if bits.is_empty() {
+        any
+    } else {
+        random.pick(&bits)
+    };
+    if let Some(byte) = frame.get_mut(at) {
+        *byte |= bit;
     }
 }
 
@@ -206,7 +267,7 @@ fn some_damaged_frame(random: &mut Random, form: u8) -> Vec<u8> {
 }
 
 /// What a position is given for.
-#[derive(Clone, Copy, Debug)]
+#[derive(Clone, Copy, Debug, PartialEq, Eq)]
 enum Place {
     Length,
     FirstBits,
@@ -218,37 +279,73 @@ enum Place {
     LargestSize,
 }
 
-const PLACES: usize = 8;
+const PLACES: [Place; 8] = [
+    Place::Length,
+    Place::FirstBits,
+    Place::Fill,
+    Place::Lv,
+    Place::Padding,
+    Place::ZeroPastTheSegment,
+    Place::BytePastTheSegment,
+    Place::LargestSize,
+];
 
-fn place(form: u8, frame: &[u8], number: u8, at: usize) -> Place {
-    match number {
-        2 => return Place::Length,
-        13 => return Place::LargestSize,
-        _ => (),
-    }
-    match (frame[0], at) {
-        (_, 0) => Place::FirstBits,
-        (REQUEST, 6) if frame[6] & 0x60 != 0 => Place::Fill,
-        (first, at) if lv_place(first) == Some(at) => Place::Lv,
-        (CONFIRMATION, at) if at == sizes(form).segment => match frame[at] {
-            0 => Place::ZeroPastTheSegment,
-            _ => Place::BytePastTheSegment,
-        },
-        _ => Place::Padding,
+impl Place {
+    /// Whether a frame of a known kind can be wrong there.
+    fn is_of(self, kind: &Kind, form: u8) -> bool {
+        match self {
+            Place::Length | Place::FirstBits => false,
+            Place::Fill => kind.has_fill(form),
+            Place::Lv | Place::LargestSize => kind.has_user,
+            Place::Padding => true,
+            Place::ZeroPastTheSegment | Place::BytePastTheSegment => !kind.has_user,
+        }
     }
 }
 
-/// Every form by turns. Each has to have been refused often for each thing that has a position.
+/// The place of a refusal in a frame of one of the kinds, or in one of no kind at all.
+fn place(form: u8, frame: &[u8], number: u8, at: usize) -> Option<Place> {
+    match (number, at) {
+        (2, _) => return Some(Place::Length),
+        (3, 0) => return Some(Place::FirstBits),
+        _ => (),
+    }
+    let kind = Kind::of(frame[0])?;
+    Some(if number == 13 {
+        Place::LargestSize
+    } else if frame[at] & kind.fill_at(form, at) != 0 {
+        Place::Fill
+    } else if kind.lv_place() == Some(at) {
+        Place::Lv
+    } else if kind.has_user || at < sizes(form).segment {
+        Place::Padding
+    } else if frame[at] == 0 {
+        Place::ZeroPastTheSegment
+    } else {
+        Place::BytePastTheSegment
+    })
+}
+
+/// Every form by turns. Each has to have been refused often for each thing that has a position, and
+/// so has each kind, in either direction, for all that it has.
 fn damaged(trial: &mut Trial) {
     let mut bed = Bed::new();
-    let mut seen = [[0u64; PLACES]; FORMS as usize];
+    let mut seen = [[0u64; PLACES.len()]; FORMS as usize];
+    let mut by_kind = [[[0u64; PLACES.len()]; KINDS.len()]; 2];
     for turn in 0..trial.times(1_500_000, 6_000_000) {
         let form = (turn % u64::from(FORMS)) as u8;
         let frame = some_damaged_frame(&mut trial.random, form);
         check_read(trial, &mut bed, form, &frame);
-        if let Err((number, at)) = by_place(plain_read(form, &frame)) {
-            let place = place(form, &frame, number, at);
-            seen[usize::from(form)][place as usize] += 1;
+        let Err((number, at)) = by_place(plain_read(form, &frame)) else {
+            continue;
+        };
+        let Some(place) = place(form, &frame, number, at) else {
+            continue;
+        };
+        seen[usize::from(form)][place as usize] += 1;
+        if let Some(kind) = frame.first().and_then(|&first| Kind::of(first)) {
+            let down = usize::from(form != SHORT && form != LONG);
+            by_kind[down][usize::from(kind.number)][place as usize] += 1;
         }
     }
     for (form, places) in seen.iter().enumerate() {
@@ -256,6 +353,13 @@ fn damaged(trial: &mut Trial) {
             places.iter().all(|&times| times >= 20),
             "form {form}: {places:?}"
         );
+    }
+    for (kind, form) in KINDS.iter().flat_map(|kind| [(kind, LONG), (kind, 1)]) {
+        let places = by_kind[usize::from(form != LONG)][usize::from(kind.number)];
+        for place in PLACES.iter().filter(|place| place.is_of(kind, form)) {
+            let times = places[*place as usize];
+            assert!(times >= 20, "form {form}, {kind:?}: {place:?} {times}");
+        }
     }
 }
 
@@ -294,19 +398,22 @@ fn change_after(random: &mut Random, frame: &mut [u8], at: usize) {
 }
 
 /// Another value of that byte alone, and the frame has its first fault later or none. Only what
-/// lies past the one segment of a CLEAR CONFIRMATION cannot be mended so.
+/// lies past the segments of a packet without LV cannot be mended so.
 fn the_byte_itself_matters(trial: &mut Trial) {
     let mut lent = Lent::new();
     for _ in 0..trial.times(40_000, 300_000) {
         let (form, mut frame, at) = some_format_error(&mut trial.random, &mut lent);
         let segment = sizes(form).segment;
-        if frame[0] == CONFIRMATION && at == segment {
+        let lv_place = lv_place(frame[0]);
+        if lv_place.is_none() && at > 0 && at.is_multiple_of(segment) {
             continue;
         }
         let what = format!("form {form}, byte {at} of {frame:x?}");
-        frame[at] = match lv_place(frame[0]) {
+        let fill = Kind::of(frame[0]).map_or(0, |kind| kind.fill_at(form, at));
+        frame[at] = match lv_place {
             _ if at == 0 => 0x80,
-            Some(place) if place == at => frame[at] & 0x90 | segment as u8,
+            Some(place) if place == at => frame[at] & 0xF0 & !fill | segment as u8,
+            _ if fill != 0 => frame[at] & !fill,
             _ => 0,
         };
         let (number, later) = told(&mut lent, form, &frame);

@@ -3,9 +3,11 @@
 
 use pepperknoll::raw;
 use pepperknoll::{LinkNumber, PacketNumber};
-use plain::frame::{self, Form, Packet, PACKET_BYTES};
+use plain::frame::{self, Form};
+use plain::packet::{Packet, PACKET_BYTES};
 use plain::{lent, Fault, Refusal};
 
+use crate::kinds::{Kind, KINDS};
 use crate::support::{
     answer, by_number, by_place, safe_by_number, safe_by_place, Call, Lent, Random, Trial,
 };
@@ -16,7 +18,10 @@ pub fn run(trial: &mut Trial) {
     short_with_every_value(trial);
     every_short_frame(trial);
     every_form(trial);
-    every_byte_without_a_field(trial);
+    every_kind_in_every_form(trial);
+    every_value(trial);
+    every_other_kind(trial);
+    user_data_where_there_is_none(trial);
     every_header_byte(trial);
     every_length_byte(trial);
     every_padding_bit(trial);
@@ -131,45 +136,130 @@ pub fn safe_form(number: u8) -> pepperknoll::Form {
     }
 }
 
+/// What the safe call reads where `plain` reads this.
+fn safe_read(packet: Packet, user: &[u8]) -> pepperknoll::Read<'_> {
+    let Packet::Route(route) = packet else {
+        return pepperknoll::Read::Packet(safe_packet(packet), user);
+    };
+    let (table, after) = user.split_at(route.rtl.into());
+    pepperknoll::Read::Route(pepperknoll::Route {
+        init: route.init,
+        table,
+        data: route.of.then(|| &after[1..]),
+    })
+}
+
 fn safe_packet(packet: Packet) -> pepperknoll::Packet {
     match packet {
-        Packet::Data { m, sn, ps, pr, ch } => pepperknoll::Packet::Data {
-            m,
-            sn: LinkNumber(sn),
-            ps: PacketNumber(ps),
-            pr: PacketNumber(pr),
-            ch,
+        Packet::Data(_) | Packet::Interrupt(_) => safe_with_data(packet),
+        Packet::ClearRequest(_) | Packet::ClearConfirmation(_) => safe_clear(packet),
+        Packet::CallRequest(_) | Packet::CallAccept(_) => safe_call(packet),
+        _ => safe_alone(packet),
+    }
+}
+
+fn safe_with_data(packet: Packet) -> pepperknoll::Packet {
+    match packet {
+        Packet::Data(data) => pepperknoll::Packet::Data {
+            m: data.m,
+            sn: LinkNumber(data.sn),
+            ps: PacketNumber(data.ps),
+            pr: PacketNumber(data.pr),
+            ch: data.ch,
         },
-        Packet::ClearRequest {
-            tc,
-            sn,
-            ch,
-            am,
-            ag,
-            cc,
-            dc,
-            s,
-            f,
-        } => pepperknoll::Packet::ClearRequest {
-            tc,
-            sn: LinkNumber(sn),
-            ch,
-            am,
-            ag,
-            cc,
-            dc,
-            s,
-            f,
+        Packet::Interrupt(interrupt) => pepperknoll::Packet::Interrupt {
+            s: interrupt.s,
+            f: interrupt.f,
+            sn: LinkNumber(interrupt.sn),
+            ch: interrupt.ch,
         },
-        Packet::ClearConfirmation { tc, sn, ch, am, ag } => {
-            pepperknoll::Packet::ClearConfirmation {
-                tc,
-                sn: LinkNumber(sn),
-                ch,
-                am,
-                ag,
-            }
+        _ => panic!("{packet:?}"),
+    }
+}
+
+fn safe_clear(packet: Packet) -> pepperknoll::Packet {
+    match packet {
+        Packet::ClearRequest(request) => pepperknoll::Packet::ClearRequest {
+            tc: request.tc,
+            sn: LinkNumber(request.sn),
+            ch: request.ch,
+            am: request.am,
+            ag: request.ag,
+            cc: request.cc,
+            dc: request.dc,
+            s: request.s,
+            f: request.f,
+        },
+        Packet::ClearConfirmation(confirmation) => pepperknoll::Packet::ClearConfirmation {
+            tc: confirmation.tc,
+            sn: LinkNumber(confirmation.sn),
+            ch: confirmation.ch,
+            am: confirmation.am,
+            ag: confirmation.ag,
+        },
+        _ => panic!("{packet:?}"),
+    }
+}
+
+fn safe_call(packet: Packet) -> pepperknoll::Packet {
+    match packet {
+        Packet::CallRequest(request) => pepperknoll::Packet::CallRequest {
+            p: request.p,
+            sn: LinkNumber(request.sn),
+            tc: request.tc,
+            ch: request.ch,
+            am: request.am,
+            ag: request.ag,
+            s: request.s,
+            fs: request.fs,
+            f: request.f,
+        },
+        Packet::CallAccept(accept) => pepperknoll::Packet::CallAccept {
+            tc: accept.tc,
+            sn: LinkNumber(accept.sn),
+            ch: accept.ch,
+            am: accept.am,
+            ag: accept.ag,
+            s: accept.s,
+            f: accept.f,
+        },
+        _ => panic!("{packet:?}"),
+    }
+}
+
+fn safe_alone(packet: Packet) -> pepperknoll::Packet {
+    let safe = |receipt: plain::packet::Receipt| {
+        let (sn, pr) = (LinkNumber(receipt.sn), PacketNumber(receipt.pr));
+        (sn, receipt.ch, pr)
+    };
+    match packet {
+        Packet::ReceiveReady(receipt) => {
+            let (sn, ch, pr) = safe(receipt);
+            pepperknoll::Packet::ReceiveReady { sn, ch, pr }
         }
+        Packet::ReceiveNotReady(receipt) => {
+            let (sn, ch, pr) = safe(receipt);
+            pepperknoll::Packet::ReceiveNotReady { sn, ch, pr }
+        }
+        Packet::Reject(receipt) => {
+            let (sn, ch, pr) = safe(receipt);
+            pepperknoll::Packet::Reject { sn, ch, pr }
+        }
+        Packet::InterruptConfirmation(confirmation) => pepperknoll::Packet::InterruptConfirmation {
+            sn: LinkNumber(confirmation.sn),
+            ch: confirmation.ch,
+        },
+        Packet::Reset(reset) => pepperknoll::Packet::Reset {
+            sn: LinkNumber(reset.sn),
+            ch: reset.ch,
+            rc: reset.rc,
+            dc: reset.dc,
+        },
+        Packet::ResetConfirmation(confirmation) => pepperknoll::Packet::ResetConfirmation {
+            sn: LinkNumber(confirmation.sn),
+            ch: confirmation.ch,
+        },
+        _ => panic!("{packet:?}"),
     }
 }
 
@@ -199,7 +289,7 @@ pub fn check_read(trial: &mut Trial, bed: &mut Bed, form: u8, frame: &[u8]) -> O
     // The safe call brings its own places, always enough.
     let safe = pepperknoll::read_frame(safe_form(form), frame);
     let read = plain_read(form, frame);
-    let wanted = read.map(|(packet, user)| (safe_packet(packet), user));
+    let wanted = read.map(|(packet, user)| safe_read(packet, user));
     assert_eq!(safe_by_place(safe), by_place(wanted), "{}", what());
     read.ok().map(|(packet, _)| packet)
 }
@@ -233,40 +323,27 @@ pub fn some_form(random: &mut Random) -> u8 {
 
 /// A packet's bytes, each mostly in its field; those without a field are seldom other than 0, and
 /// seldom are there more bytes than ten, or fewer.
-fn some_packet(random: &mut Random) -> Vec<u8> {
-    let kind = random.pick(&[0, 0, 0, 1, 1, 2]);
-    let widths: &[u32] = match kind {
-        0 => &[1, 6, 4, 4, 4],
-        1 => &[2, 6, 4, 4, 8, 8, 8, 1, 1],
-        _ => &[2, 6, 4, 4, 8],
-    };
-    let mut bytes = vec![kind; 1];
-    for &bits in widths {
-        bytes.push(match bits {
-            8 => random.byte(),
-            _ => random.field(bits),
-        });
-    }
-    bytes.resize(PACKET_BYTES, 0);
-    let free = 1 + widths.len()..PACKET_BYTES;
+fn some_packet(random: &mut Random, form: u8, kind: &Kind) -> Vec<u8> {
+    let mut bytes = kind.some_bytes(random, form);
+    let free = 1 + kind.widths(form).len()..PACKET_BYTES;
     match random.below(64) {
         0 => bytes[0] = random.byte(),
-        1 if !free.is_empty() => bytes[free.start + random.below(free.len())] = random.byte(),
-        2 if random.one_in(2) => bytes.resize(random.below(2 * PACKET_BYTES), 0),
+        1 => bytes[0] = random.below(16) as u8, // mostly another kind
+        2 if !free.is_empty() => bytes[free.start + random.below(free.len())] = random.byte(),
+        3 if random.one_in(2) => bytes.resize(random.below(2 * PACKET_BYTES), 0),
         _ => (),
     }
     bytes
 }
 
 /// A length of user data: around whole segments and around the largest.
-fn some_user_length(random: &mut Random, form: u8, kind: u8) -> usize {
+fn some_user_length(random: &mut Random, form: u8, kind: &Kind) -> usize {
     let (segment, largest) = Form::from_number(form)
         .and_then(Form::sizes)
         .map_or((10, 40), |sizes| (sizes.segment, sizes.largest));
-    if kind == 2 && !random.one_in(20) {
+    if !kind.has_user && !random.one_in(20) {
         return 0;
     }
-    let header = if kind == 1 { 7 } else { 3 };
     let packet = match random.below(8) {
         0 => largest + random.below(3),
         1 => largest - 1,
@@ -274,12 +351,13 @@ fn some_user_length(random: &mut Random, form: u8, kind: u8) -> usize {
         3..=5 => segment * random.below(largest / segment + 1) + random.below(3),
         _ => random.below(largest + 1),
     };
-    packet.saturating_sub(header)
+    packet.saturating_sub(kind.header)
 }
 
 fn some_writing(random: &mut Random) -> Writing {
-    let (form, packet) = (some_form(random), some_packet(random));
-    let kind = packet.first().copied().unwrap_or(0);
+    let form = some_form(random);
+    let kind = &KINDS[random.below(KINDS.len())];
+    let packet = some_packet(random, form, kind);
     let length = some_user_length(random, form, kind);
     let mut writing = Writing {
         form,
@@ -379,24 +457,117 @@ fn every_form(trial: &mut Trial) {
     }
 }
 
-/// Each value of each byte that a kind has no use for: 0 is good, any other is 1, also where there
-/// is no room. Of a CLEAR REQUEST every byte is used.
-fn every_byte_without_a_field(trial: &mut Trial) {
+/// Every kind in every form with each length of user data that the form allows and one more; where
+/// there is none, with none. What was written, or laid out in the short form, is read back.
+fn every_kind_in_every_form(trial: &mut Trial) {
     let mut bed = Bed::new();
-    for kind in [0, 2] {
-        for at in 6..PACKET_BYTES {
-            for value in 0..=255 {
-                for room in [10, 0] {
-                    let mut packet = vec![kind, 1, 5, 3, 2, 4, 0, 0, 0, 0];
-                    packet[at] = value;
+    for form in 0..=17 {
+        let sizes = Form::from_number(form)
+            .and_then(Form::sizes)
+            .expect("a form");
+        for kind in &KINDS {
+            let most = if kind.has_user {
+                sizes.largest + 1 - kind.header
+            } else {
+                0
+            };
+            for length in 0..=most {
+                let packet = kind.some_bytes(&mut trial.random, form);
+                let room = trial.random.pick(&[0, sizes.segment, 160, 161, 200]);
+                let user = trial.random.bytes(length);
+                let writing = Writing {
+                    form,
+                    packet,
+                    user,
+                    room,
+                };
+                writing.check(trial, &mut bed);
+                let Ok(frame) = writing.laid_out() else {
+                    continue;
+                };
+                let back = check_read(trial, &mut bed, form, &frame);
+                assert_eq!(
+                    back,
+                    Packet::from_bytes(&writing.packet).ok(),
+                    "{writing:?}"
+                );
+            }
+        }
+    }
+}
+
+/// Each value of each byte after the kind: one that exceeds its field, stands where the direction
+/// has no place or where the kind has no field is 1, also where there is no room. All others are
+/// read back.
+fn every_value(trial: &mut Trial) {
+    let mut bed = Bed::new();
+    for form in [17, 1, 2, 16] {
+        for kind in &KINDS {
+            let largest = kind.largest(form);
+            for (at, value) in (1..PACKET_BYTES).flat_map(|at| (0..=255).map(move |v| (at, v))) {
+                let mut packet = largest.to_vec();
+                packet[at] = value;
+                let mut writing = Writing {
+                    form,
+                    packet,
+                    user: Vec::new(),
+                    room: 10,
+                };
+                let written = writing.check(trial, &mut bed);
+                assert_eq!(written.is_some(), value <= largest[at], "{writing:?}");
+                if let Some(frame) = written {
+                    let back = check_read(trial, &mut bed, form, &frame);
+                    assert_eq!(
+                        back,
+                        Packet::from_bytes(&writing.packet).ok(),
+                        "{writing:?}"
+                    );
+                }
+                writing.room = 9;
+                let number = if value <= largest[at] { 5 } else { 1 };
+                writing.check_refused(trial, &mut bed, number);
+            }
+        }
+    }
+}
+
+/// ROUTE and every number that is no kind: 1, before all else and whatever the bytes after it.
+fn every_other_kind(trial: &mut Trial) {
+    let mut bed = Bed::new();
+    for kind in 12..=255 {
+        for form in [17, 1, 16, SHORT, 18] {
+            for (rest, length, room) in [(0, 0, 10), (0, 5, 20), (1, 0, 10), (0, 300, 0)] {
+                let mut packet = vec![rest; PACKET_BYTES];
+                packet[0] = kind;
+                let user = vec![0x77; length];
+                let writing = Writing {
+                    form,
+                    packet,
+                    user,
+                    room,
+                };
+                writing.check_refused(trial, &mut bed, 1);
+            }
+        }
+    }
+}
+
+/// Any user data with a kind that has none is 1, before 23, 13 and 5.
+fn user_data_where_there_is_none(trial: &mut Trial) {
+    let mut bed = Bed::new();
+    for kind in KINDS.iter().filter(|kind| !kind.has_user) {
+        for form in 0..=17 {
+            for length in [1, 2, 5, 7, 10, 24, 149, 200, 300] {
+                for room in [0, 10, 20, 400] {
+                    let packet = kind.largest(form).to_vec();
+                    let user = vec![0; length];
                     let writing = Writing {
-                        form: 17,
+                        form,
                         packet,
-                        user: Vec::new(),
+                        user,
                         room,
                     };
-                    let done = writing.check(trial, &mut bed).is_some();
-                    assert_eq!(done, value == 0 && room == 10, "{writing:?}");
+                    writing.check_refused(trial, &mut bed, 1);
                 }
             }
         }
@@ -405,13 +576,6 @@ fn every_byte_without_a_field(trial: &mut Trial) {
 
 /// The number of the short form, which is read and not written.
 pub const SHORT: u8 = 0;
-
-/// A packet of each kind with the largest value in every byte; a byte without a field has 0.
-const LARGEST: [[u8; PACKET_BYTES]; 3] = [
-    [0, 1, 63, 15, 15, 15, 0, 0, 0, 0],
-    [1, 3, 63, 15, 15, 255, 255, 255, 1, 1],
-    [2, 3, 63, 15, 15, 255, 0, 0, 0, 0],
-];
 
 fn short_writing(packet: &[u8], user_length: usize, room: usize) -> Writing {
     Writing {
@@ -427,22 +591,29 @@ fn short_writing(packet: &[u8], user_length: usize, room: usize) -> Writing {
 /// segments. 23 comes after 1, and before 13 and 5.
 fn short_with_other_refusals(trial: &mut Trial) {
     let mut bed = Bed::new();
-    let good = LARGEST.map(|packet| (packet.to_vec(), true));
-    let mut packets = good.to_vec();
-    for (kind, at, value) in [(0, 2, 64), (0, 5, 16), (1, 2, 64), (1, 9, 2), (2, 9, 1)] {
-        let mut packet = LARGEST[kind].to_vec();
-        packet[at] = value; // past its field, a flag over 1, a byte without a field
-        packets.push((packet, false));
+    let mut packets: Vec<(Vec<u8>, bool)> = Vec::new();
+    for kind in &KINDS {
+        let good = kind.largest(SHORT);
+        packets.push((good.to_vec(), true));
+        // past its field, a flag over 1, a byte without a field
+        for at in (1..PACKET_BYTES).filter(|&at| good[at] < 255) {
+            let mut packet = good.to_vec();
+            packet[at] += 1;
+            packets.push((packet, false));
+        }
     }
-    let no_kind = vec![3, 0, 0, 0, 0, 0, 0, 0, 0, 0];
+    let no_kind = vec![13, 0, 0, 0, 0, 0, 0, 0, 0, 0];
     for no_packet in [no_kind, vec![], vec![0; 9], vec![0; 11]] {
         packets.push((no_packet, false));
     }
     for (packet, good) in packets {
-        let confirmation = packet.first() == Some(&2);
+        let kind = packet
+            .first()
+            .and_then(|&number| KINDS.get(usize::from(number)));
+        let has_user = kind.is_some_and(|kind| kind.has_user);
         for length in [0, 1, 4, 5, 20, 21, 22, 25, 26, 149, 150, 300] {
             for room in [0, 1, 6, 7, 8, 13, 14, 20, 21, 27, 28, 29, 200] {
-                let in_range = good && (!confirmation || length == 0);
+                let in_range = good && (has_user || length == 0);
                 let number = if in_range { 23 } else { 1 };
                 short_writing(&packet, length, room).check_refused(trial, &mut bed, number);
             }
@@ -453,7 +624,7 @@ fn short_with_other_refusals(trial: &mut Trial) {
 /// Each value of each byte of each kind in the short form: 1 where it exceeds its field, else 23.
 fn short_with_every_value(trial: &mut Trial) {
     let mut bed = Bed::new();
-    for good in LARGEST {
+    for good in KINDS.iter().map(|kind| kind.largest(SHORT)) {
         for at in 1..PACKET_BYTES {
             for value in 0..=255 {
                 let mut packet = good;
@@ -465,17 +636,14 @@ fn short_with_every_value(trial: &mut Trial) {
             }
         }
     }
-    for kind in 3..=255 {
-        let packet = [kind, 0, 0, 0, 0, 0, 0, 0, 0, 0];
-        short_writing(&packet, 0, 28).check_refused(trial, &mut bed, 1);
-    }
 }
 
 /// Every short frame by its length: each kind, one to four segments, each LV. All are read.
 fn every_short_frame(trial: &mut Trial) {
     let mut bed = Bed::new();
-    for good in LARGEST {
-        let most = [25, 21, 0][usize::from(good[0])];
+    for kind in &KINDS {
+        let good = kind.largest(SHORT);
+        let most = if kind.has_user { 28 - kind.header } else { 0 };
         for length in 0..=most {
             let writing = short_writing(&good, length, 28);
             writing.check_refused(trial, &mut bed, 23);
@@ -491,19 +659,25 @@ fn every_short_frame(trial: &mut Trial) {
     }
 }
 
-/// Good frames to start from, by the layout, in one to three segments.
+/// Good frames to start from, by the layout, in one to three segments: each kind with 0 and with
+/// all bits set.
 fn good_frames(form: u8) -> Vec<Vec<u8>> {
-    let packets = [
-        ([0, 1, 5, 3, 2, 4, 0, 0, 0, 0], &[0usize, 2, 9, 15][..]),
-        ([1, 1, 9, 3, 2, 0x41, 141, 162, 1, 1], &[0, 2, 9, 15]),
-        ([2, 1, 9, 3, 2, 0x41, 0, 0, 0, 0], &[0]),
-    ];
     let mut frames = Vec::new();
-    for (packet, lengths) in packets {
-        for &length in lengths {
+    for kind in &KINDS {
+        let lengths = if kind.has_user {
+            &[0, 2, 9, 15][..]
+        } else {
+            &[0]
+        };
+        let mut least = vec![0; PACKET_BYTES];
+        least[0] = kind.number;
+        for (packet, &length) in [least, kind.largest(form).to_vec()]
+            .iter()
+            .flat_map(|packet| lengths.iter().map(move |length| (packet, length)))
+        {
             let writing = Writing {
                 form,
-                packet: packet.to_vec(),
+                packet: packet.clone(),
                 user: vec![0x77; length],
                 room: 0,
             };
@@ -536,17 +710,18 @@ fn every_length_byte(trial: &mut Trial) {
         let segment = if form == 0 { 7 } else { 10 };
         for segments in 0..=18 {
             for lv in 0..16 {
-                let mut frame = vec![0; segment * segments];
-                for front in [&[0x80, 0, lv][..], &[0x58, 0, 0, 0, 0, 0, lv], &[0x5C, lv]] {
+                for kind in &KINDS {
+                    let mut frame = vec![0; segment * segments];
                     if segments > 0 {
-                        frame[..front.len()].copy_from_slice(front);
+                        frame[0] = kind.first;
+                        frame[kind.header - 1] = lv;
+                    }
+                    check_read(trial, &mut bed, form, &frame);
+                    if let Some(last) = frame.last_mut() {
+                        *last = 1;
                     }
                     check_read(trial, &mut bed, form, &frame);
                 }
-                if let Some(last) = frame.last_mut() {
-                    *last = 1;
-                }
-                check_read(trial, &mut bed, form, &frame);
             }
         }
     }
@@ -571,12 +746,42 @@ fn every_padding_bit(trial: &mut Trial) {
     }
 }
 
+const ROUTE: &[u8] = &[12, 0, 0, 0, 0, 0, 0, 0, 0, 0];
+const READY: &[u8] = &[5, 63, 15, 15, 0, 0, 0, 0, 0, 0];
+/// CALL packets of one direction only: TC of a CALL REQUEST is of the uplink, CH of it and TC of a
+/// CALL ACCEPT are of the downlink.
+const WITH_TC: &[u8] = &[3, 0, 0, 1, 0, 0, 0, 0, 0, 0];
+const WITH_CH: &[u8] = &[3, 0, 0, 0, 1, 0, 0, 0, 0, 0];
+const ACCEPT: &[u8] = &[4, 1, 0, 0, 0, 0, 0, 0, 0, 0];
+
+/// A form, a packet, lengths of user data and room, and the number that is first.
+type Case = (u8, &'static [u8], usize, usize, u8);
+
+const OF_OTHER_KINDS: [Case; 16] = [
+    (17, ROUTE, 0, 10, 1),
+    (17, ROUTE, 200, 0, 1),
+    (17, READY, 1, 0, 1),
+    (17, READY, 0, 9, 5),
+    (1, WITH_TC, 200, 0, 1),
+    (17, WITH_TC, 148, 0, 13),
+    (17, WITH_CH, 200, 0, 1),
+    (1, WITH_CH, 6, 0, 13),
+    (17, ACCEPT, 200, 0, 1),
+    (1, ACCEPT, 5, 9, 5),
+    (SHORT, ROUTE, 0, 7, 1),
+    (SHORT, READY, 1, 7, 1),
+    (SHORT, READY, 0, 0, 23),
+    (SHORT, WITH_TC, 24, 0, 23),
+    (SHORT, WITH_CH, 0, 7, 1),
+    (SHORT, ACCEPT, 0, 7, 1),
+];
+
 /// Inputs that deserve several refusals, by the numbers that the rules put first.
 fn several_refusals(trial: &mut Trial) {
     let mut bed = Bed::new();
     let data: &[u8] = &[0, 0, 0, 0, 0, 0, 0, 0, 0, 0];
     let wide = &[0, 0, 64, 0, 0, 0, 0, 0, 0, 0];
-    let no_kind = &[3, 0, 0, 0, 0, 0, 0, 0, 0, 0];
+    let no_kind = &[13, 0, 0, 0, 0, 0, 0, 0, 0, 0];
     let confirmation = &[2, 0, 0, 0, 0, 0, 0, 0, 0, 0];
     let unused = &[2, 0, 0, 0, 0, 0, 0, 0, 0, 9];
     let cases = [
@@ -600,7 +805,7 @@ fn several_refusals(trial: &mut Trial) {
         (SHORT, data, 25, 28, 23),
         (SHORT, confirmation, 0, 7, 23),
     ];
-    for (form, packet, length, room, number) in cases {
+    for (form, packet, length, room, number) in cases.into_iter().chain(OF_OTHER_KINDS) {
         let writing = Writing {
             form,
             packet: packet.to_vec(),
@@ -621,7 +826,16 @@ fn reading_several_refusals(trial: &mut Trial, bed: &mut Bed) {
     two_segments[0] = 0x5C;
     let mut short = vec![0; 35]; // too long for the short form
     short[..3].copy_from_slice(&[0x80, 0, 1]);
-    let cases: [(u8, &[u8], u8, usize); 13] = [
+    let mut ready = vec![0; 20]; // two segments, padding and fill
+    ready[..3].copy_from_slice(&[0x60, 0xC5, 0x37]);
+    let mut accept = vec![0; 20]; // fill and LV, and too long for one segment
+    accept[..5].copy_from_slice(&[0x54, 0x45, 0x32, 0x41, 0x40]);
+    let cases: [(u8, &[u8], u8, usize); 18] = [
+        (17, &ready, 3, 1),
+        (1, &ready[..10], 3, 1),
+        (17, &accept, 3, 1), // TC has no place
+        (1, &accept, 3, 4),
+        (SHORT, &accept[..14], 3, 1),
         (18, &[], 1, 0),
         (255, &[], 1, 0),
         (17, &[], 2, 0),

@@ -14,10 +14,8 @@ pub fn run(trial: &mut Trial) {
     orders_of_updates();
     orders_of_frames();
     orders_of_writes();
-    for length in wrong(2) {
-        sender(trial, length);
-    }
     for length in wrong(3) {
+        sender(trial, length);
         receiver(trial, length);
     }
     for length in wrong(146) {
@@ -94,6 +92,12 @@ fn sender(trial: &mut Trial, length: usize) {
             for pr in NUMBERS {
                 let answer = raw::pk_sender_acknowledge(state, length, pr);
                 refused(trial, Call::SenderAcknowledge, answer, &[(&lent, &before)]);
+                let answer = raw::pk_sender_ready(state, length, pr);
+                refused(trial, Call::SenderReady, answer, &[(&lent, &before)]);
+                let answer = raw::pk_sender_not_ready(state, length, pr);
+                refused(trial, Call::SenderNotReady, answer, &[(&lent, &before)]);
+                let answer = raw::pk_sender_reject(state, length, pr);
+                refused(trial, Call::SenderReject, answer, &[(&lent, &before)]);
             }
             let answer = raw::pk_sender_in_order(state, length);
             refused(trial, Call::SenderInOrder, answer, &[(&lent, &before)]);
@@ -399,6 +403,15 @@ fn some_frames() -> Vec<Vec<u8>> {
         zeros_after(&[0x80, 0, 2], 10),
         vec![0xFF; 11],
         vec![],
+        zeros_after(&[0x50, 0x89, 0x12, 0x41, 0xF5], 10),
+        zeros_after(&[0x54, 0x09, 0x32, 0x41, 0x95], 10),
+        zeros_after(&[0x60, 9, 0x37], 10),
+        zeros_after(&[0x64, 9, 0x37], 7),
+        zeros_after(&[0x68, 9, 0x30, 1, 2], 10),
+        zeros_after(&[0x6C, 9, 0x30], 7),
+        zeros_after(&[0x74, 0xC9, 0x3A], 10),
+        zeros_after(&[0x7C, 9, 0x30], 10),
+        zeros_after(&[0x7D, 9, 0x37], 20),
     ]
 }
 

@@ -6,10 +6,12 @@
 mod choice;
 mod faults;
 mod frames;
+mod kinds;
 mod lengths;
 mod messages;
 mod resequencer;
 mod routes;
+mod routes_frames;
 mod support;
 mod transfer;
 mod window;
@@ -44,6 +46,11 @@ fn messages() {
 #[test]
 fn routes() {
     subject("routes", routes::run);
+}
+
+#[test]
+fn routes_frames() {
+    subject("routes-frames", routes_frames::run);
 }
 
 #[test]

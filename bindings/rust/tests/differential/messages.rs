@@ -3,9 +3,10 @@
 //! it out.
 
 use pepperknoll::{raw, LinkNumber, PacketNumber};
-use plain::frame::{self, Form, Packet};
+use plain::frame::{self, Form};
 use plain::message::{self, Cut, Start};
 use plain::packed;
+use plain::packet::{Data, Packet};
 use plain::{lent, Fault, Refusal};
 
 use crate::frames::{safe_form, some_form, SHORT};
@@ -274,7 +275,17 @@ impl Joining {
             [0x58, 9, 0x32, 0x41, 141, 162, 7],
             [0x5C, 9, 0x32, 0x41, 0, 0, 0],
             [0x5C, 9, 0x32, 0x41, 0, 0, 1],
-            [0x50, 9, 0x32, 0x41, 0, 0, 7],
+            [0x50, 9, 0x32, 0x41, 7, 0, 0],
+            [0x50, 0x89, 0x12, 0x41, 0x67, 9, 9],
+            [0x54, 0x49, 0x32, 0x41, 7, 9, 9],
+            [0x60, 9, 0x32, 0, 0, 0, 0],
+            [0x68, 9, 0x30, 1, 2, 0, 0],
+            [0x71, 3, 0x59, 0x12, 0x40, 0, 0],
+            [0x72, 3, 0x59, 0x12, 0x40, 9, 0],
+            [0x6C, 9, 0x31, 0, 0, 0, 0],
+            [0x74, 9, 0x37, 1, 2, 3, 4],
+            [0x7D, 9, 0x32, 0, 0, 0, 0],
+            [0x7E, 9, 0x32, 0, 0, 0, 0],
         ]);
         bytes.fill(0);
         let length = bytes.len().min(front.len());
@@ -499,13 +510,13 @@ pub fn run_of_frames(random: &mut Random, form: u8, count: usize, most: usize) -
         room: 0,
     };
     for index in 0..count {
-        let packet = Packet::Data {
+        let packet = Packet::Data(Data {
             m: index + 1 < count,
             sn: (sn as usize + index) as u8 % 64,
             ps: (ps as usize + index) as u8 % 16,
             pr: pr & 15,
             ch: ch & 15,
-        };
+        });
         let length = random.below(most.min(largest - 3) + 1);
         let (user, mut out) = (random.bytes(length), [0; 160]);
         let made = frame::lay_out(plain_form, &packet, &user, &mut out).expect("it fits");
@@ -585,13 +596,13 @@ fn run_that_carries(random: &mut Random, form: u8, share: usize, total: usize) -
     let frames = message.chunks(share);
     let last = frames.len() - 1;
     for (index, user) in frames.enumerate() {
-        let packet = Packet::Data {
+        let packet = Packet::Data(Data {
             m: index < last,
             sn: (index % 64) as u8,
             ps: (index % 16) as u8,
             pr: 0,
             ch: 1,
-        };
+        });
         let mut out = [0; 160];
         let made = frame::lay_out(plain_form, &packet, user, &mut out).expect("it fits");
         joining.frames.extend(&out[..made]);
@@ -715,6 +726,9 @@ fn short_cases() -> [Refused; 6] {
 fn joining_several_refusals(trial: &mut Trial, bed: &mut Bed) {
     let tens = vec![10; 3];
     let not_data = three(&[(20, 0x5C), (21, 0), (22, 0)]);
+    let ready = three(&[(10, 0x60), (11, 5), (12, 0x37)]);
+    let bad_ready = three(&[(10, 0x60), (11, 5), (12, 0x37), (17, 1)]);
+    let accept = three(&[(10, 0x54), (11, 0x45), (12, 0x32), (13, 0x41), (14, 0x05)]);
     let cases = [
         (18, vec![], vec![], 0, (1, 0)),
         (255, vec![], vec![], 0, (1, 0)),
@@ -729,6 +743,10 @@ fn joining_several_refusals(trial: &mut Trial, bed: &mut Bed) {
         (17, tens.clone(), three(&[(20, 0xC5)]), 0, (17, 20)), // the run before the last M
         (17, tens.clone(), three(&[(20, 0xC1)]), 0, (2, 20)), // the last M before no room
         (17, tens.clone(), not_data, 0, (3, 20)),
+        (17, tens.clone(), ready, 0, (3, 10)),
+        (17, tens.clone(), bad_ready, 0, (3, 17)),
+        (17, tens.clone(), accept.clone(), 0, (3, 11)), // TC has no place on the uplink
+        (1, tens.clone(), accept, 0, (3, 10)),
         (17, tens.clone(), three(&[]), 2, (5, 30)),
         (1, vec![20, 10], three(&[(10, 0)]), 0, (13, 10)), // too long before no room
         (SHORT, tens, three(&[(0, 0)]), 0, (2, 10)),       // no whole segments before first bits

@@ -4,8 +4,8 @@
 //! `plain` lays out the frames, which cutting refuses to make.
 
 use pepperknoll::{
-    cut, join, read_frame, Form, LinkNumber, Outcome, Packet, PacketNumber, Refusal, Resequencer,
-    Start,
+    cut, join, read_frame, Form, LinkNumber, Outcome, Packet, PacketNumber, Read, Refusal,
+    Resequencer, Start,
 };
 
 use crate::support::{Random, Trial};
@@ -101,9 +101,9 @@ fn receive(random: &mut Random, form: Form, frames: &[Vec<u8>]) -> Vec<usize> {
         // mostly from the number expected on, so that there is an end
         let from = if random.one_in(4) { first } else { expected };
         let place = from + random.below(last - from + 1);
-        let (packet, _) = read_frame(form, &frames[place]).unwrap();
-        let Packet::Data { sn, .. } = packet else {
-            panic!("frame {place} is {packet:?}");
+        let read = read_frame(form, &frames[place]).unwrap();
+        let Read::Packet(Packet::Data { sn, .. }, _) = read else {
+            panic!("frame {place} is {read:?}");
         };
         let outcome = link.arrive(sn, place as u16).unwrap();
         match outcome {
@@ -147,8 +147,8 @@ fn joined(form: Form, frames: &[Vec<u8>], places: &[usize]) -> Vec<Vec<u8>> {
         let frame = &frames[place];
         lengths.push(frame.len());
         bytes.extend_from_slice(frame);
-        let (packet, _) = read_frame(form, frame).unwrap();
-        if matches!(packet, Packet::Data { m: false, .. }) {
+        let read = read_frame(form, frame).unwrap();
+        if matches!(read, Read::Packet(Packet::Data { m: false, .. }, _)) {
             let mut out = vec![0; 4096];
             let length = join(form, &lengths, &bytes, &mut out).unwrap();
             out.truncate(length);

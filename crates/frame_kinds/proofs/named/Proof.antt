@@ -1,21 +1,16 @@
--- `frame_kinds::named` meets its contract: the tests are those of `opensWith`, in the order of
--- `kinds`.
+-- `frame_kinds::named` meets its contract: DP alone tells DATA.
 -- Assumes nothing.
-use borrow.Author.Tests.{eq-eqb, ne-eqb}
+use mathlib.Core.Path.{sym}
+use native.Mathlib.Omega.{arith}
+use borrow.Author.Needs.{needs}
+use Rattle.frame_kinds.specs.declared.Kind.the-variants.{Data}
+use Rattle.frame_kinds.specs.Kinds.{kinds}
+use Rattle.frame_kinds.proofs.Table.{in-table, found}
 use Rattle.frame_kinds.proofs.named.Statement.{statement}
 use Rattle.frame_kinds.proofs.named.Tie as tie
 
-returns : tie.Need-returns
-returns c = simp (eq-eqb _ _ (c .if1 .taken))
-
 returns-2 : tie.Need-returns-2
-returns-2 c = simp (ne-eqb _ _ (c .before .if1 .left), eq-eqb _ _ (c .if2 .taken))
-
-returns-3 : tie.Need-returns-3
-returns-3 c = simp (ne-eqb _ _ (c .before .before .if1 .left), ne-eqb _ _ (c .before .if2 .left), eq-eqb _ _ (c .if3 .taken))
-
-returns-4 : tie.Need-returns-4
-returns-4 c = simp (ne-eqb _ _ (c .before .before .if1 .left), ne-eqb _ _ (c .before .if2 .left), ne-eqb _ _ (c .if3 .left))
+returns-2 c = sym (found kinds Data (c .before .args .first) (in-table Data) (omega (arith, c .if1 .left)))
 
 pub named-spec : {M : Type 1} → statement M
-named-spec = tie.close (tie.spec returns returns-2 returns-3 returns-4)
+named-spec = tie.close (tie.spec (λ c κs. search needs) (λ c. search needs) returns-2)

@@ -54,14 +54,20 @@ returns-3 c =
       ten-bytes (a .form) (a .packet .now) _ (a .user .now) (a .out .now) ten found,
     )
 
+returns-4 : tie.Need-returns-4
+returns-4 c =
+    let named = c .before .before in
+    let a = start named .args in
+    let found = sym (c .enum-told2 .given .1) ∙ named .kind-at .ensures in
+    let ten : length (a .packet .now) ≡ 10 = omega (arith, named .before .before .if1 .left) in (
+      ten-answer (a .form) (a .packet .now) _ (length (a .user .now)) (length (a .out .now)) ten found,
+      ten-bytes (a .form) (a .packet .now) _ (a .user .now) (a .out .now) ten found,
+    )
+
 pub write-spec : {M : Type 1} → statement M
 write-spec =
     tie.close
     (tie.spec
-    returns
-    (λ c. search needs) (λ c κs. search needs)
-    (λ c. search needs) (λ c. search needs) (λ c. search needs) (λ c. search needs)
-    (λ c κs. search needs)
-    (λ c. search needs) (λ c. search needs)
-    returns-2
-    returns-3)
+    returns (λ c. search needs) (λ c κs. search needs) (λ c. search needs) (λ c. search needs)
+    (λ c. search needs) (λ c. search needs) (λ c κs. search needs) (λ c. search needs) (λ c. search needs)
+    (λ c. search needs) returns-2 returns-3 returns-4)

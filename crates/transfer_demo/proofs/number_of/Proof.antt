@@ -12,4 +12,9 @@ returns : tie.Need-returns
 returns c = ap (λ (n : LinkNumber). n .0) (c .sn .ensures) ∙ sym (ap snIn (c .before .before .read .given .1))
 
 pub number-of-spec : {M : Type 1} → statement M
-number-of-spec = tie.close (tie.spec (λ c. search needs) (λ c κs. search needs) (λ c. search needs) returns (λ c. sym (ap snIn (c .before .read2 .given .1))))
+number-of-spec =
+    tie.close
+    (tie.spec
+    (λ c. search needs) (λ c κs. search needs) (λ c. search needs) (λ c. search needs)
+    returns
+    (λ c. sym (ap snIn (c .before .read2 .given .1))) (λ c. sym (ap snIn (c .before .read3 .given .1))))

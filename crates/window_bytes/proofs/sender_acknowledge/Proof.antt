@@ -1,50 +1,50 @@
--- `window_bytes::sender_acknowledge` meets its contract: an accepted PR writes the edge; a refusal,
--- and bytes that encode no end, write nothing.
+-- `window_bytes::sender_acknowledge` meets its contract: `put_pr` writes the end that `acknowledge`
+-- returns; bytes that encode no end are not written.
 -- Assumes nothing.
-use mathlib.Core.Path.{_≡_, refl, ap, _∙_}
+use mathlib.Core.Path.{_≡_, refl, sym, ap, _∙_}
+use mathlib.Core.Bool.{true}
 use borrow.Author.Needs.{needs}
-use borrow.Author.Tests.{ne-eqb}
 use Rattle.window.specs.declared.sender.Sender.{Sender}
-use Rattle.window.specs.Sending.{acknowledgeOf}
-use Rattle.window_bytes.specs.Stored.{isSender, senderIn, acknowledgeAnswer, acknowledgeBytes}
-use Rattle.window_bytes.proofs.Calls.{acknowledged, not-acknowledged}
+use Rattle.window.specs.History.{byData, prOf}
+use Rattle.window_bytes.specs.Stored.{isSender, senderIn, prAnswer, prBytes}
+use Rattle.window_bytes.proofs.Stored.{sender-length}
+use Rattle.window_bytes.proofs.Calls.{pr-asks, pr-told}
 use Rattle.window_bytes.proofs.sender_acknowledge.Statement.{statement}
 use Rattle.window_bytes.proofs.sender_acknowledge.Tie as tie
 
--- the start, seen from the call of `acknowledge`
-abbrev start : tie.After-acknowledge → tie.Start
-start c = c .before .before .before .before .before
+-- the start, seen from the place where the bytes encode an end
+abbrev start : tie.Then1 → tie.Start
+start c = c .before .before .before .before
 
-answered : (c : tie.After-acknowledge) → c .acknowledge .result ≡ acknowledgeOf (senderIn (start c .args .state .now)) (start c .args .pr)
-answered c = c .acknowledge .ensures .0 ∙ ap (λ (s : Sender). acknowledgeOf s (start c .args .pr)) (c .before .sender-in .ensures)
+-- that place, seen from the call of `acknowledge`
+abbrev tested : tie.After-acknowledge → tie.Then1
+tested c = c .before .before .before .before
+
+encoded : (c : tie.Then1) → isSender (start c .args .state .now) ≡ true
+encoded c = sym (c .before .is-sender .ensures) ∙ c .if1 .taken
+
+answered : (c : tie.After-acknowledge) → c .acknowledge .result ≡ prOf byData (senderIn (start (tested c) .args .state .now)) (start (tested c) .args .pr)
+answered c = c .acknowledge .ensures .0 ∙ ap (λ (s : Sender). prOf byData s (start (tested c) .args .pr)) (c .before .before .sender-in .ensures)
 
 returns : tie.Need-returns
 returns c =
-    let a = c .before .before .before in
-    acknowledged _ _ (a .before .before .before .if1 .taken) _ (answered a) (c .before .enum-told .given .1)
+    let put = c .before .before in
+    let a = put .before in
+    pr-told byData _ _ (encoded (tested a)) _ (answered a) _ (put .put-pr .ensures .0) _ (put .put-pr .ensures .1)
 
 returns-2 : tie.Need-returns-2
-returns-2 c =
-    let a = c .before .before .before .before in
-    not-acknowledged _ _ (a .before .before .before .if1 .taken) _ (answered a) _ (c .before .before .verdict .given .1) _ (c .number .ensures)
-
-returns-3 : tie.Need-returns-3
-unfolding isSender acknowledgeAnswer acknowledgeBytes
-returns-3 c = rw (ne-eqb _ _ (c .if1 .left)) (refl, refl)
+unfolding prAnswer prBytes
+returns-2 c = rw (sym (c .before .is-sender .ensures) ∙ c .if1 .left) (refl, refl)
 
 pub sender-acknowledge-spec : {M : Type 1} → statement M
 sender-acknowledge-spec =
     tie.close
     (tie.spec
     (λ c κs. search needs)
+    (λ c κs. sender-length _ (encoded (c .before)))
     (λ c κs. search needs)
-    (λ c. search needs)
-    (λ c. search needs)
-    (λ c. search needs)
-    (λ c κs. search needs)
-    (λ c. search needs)
+    (λ c κs. pr-asks byData _ _ (encoded (tested c)) _ (answered c))
     (λ c. search needs)
     returns
     (λ c. search needs)
-    returns-2
-    returns-3)
+    returns-2)

@@ -4,16 +4,16 @@
 use mathlib.Core.Path.{refl, ap, _∙_}
 use borrow.Author.Needs.{needs}
 use borrow.Author.Tests.{eq-eqb, ne-eqb}
-use Rattle.window_bytes.specs.Stored.{isSender, freshSenderAnswer, freshSenderBytes, senderBytes}
+use Rattle.window_bytes.specs.Stored.{freshSenderAnswer, freshSenderBytes, senderBytes}
 use Rattle.window_bytes.proofs.sender_fresh.Statement.{statement}
 use Rattle.window_bytes.proofs.sender_fresh.Tie as tie
 
 returns : tie.Need-returns
-unfolding isSender freshSenderAnswer freshSenderBytes
+unfolding freshSenderAnswer freshSenderBytes
 returns c = rw (eq-eqb _ _ (c .before .before .before .before .before .if1 .taken)) (refl, c .before .before .put-sender .ensures ∙ ap senderBytes (c .before .before .before .fresh .ensures))
 
 returns-2 : tie.Need-returns-2
-unfolding isSender freshSenderAnswer freshSenderBytes
+unfolding freshSenderAnswer freshSenderBytes
 returns-2 c = rw (ne-eqb _ _ (c .if1 .left)) (refl, refl)
 
 pub sender-fresh-spec : {M : Type 1} → statement M

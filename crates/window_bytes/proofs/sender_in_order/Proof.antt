@@ -3,23 +3,34 @@
 -- Assumes nothing.
 use mathlib.Core.Path.{sym, ap, _∙_}
 use borrow.Author.Needs.{needs}
-use borrow.Author.Tests.{eq-eqb, ne-eqb}
 use Rattle.window.specs.Sending.{senderInOrder}
-use Rattle.window_bytes.specs.Stored.{isSender, senderOrderAnswer}
+use Rattle.window_bytes.specs.Stored.{senderOrderAnswer}
+use Rattle.window_bytes.proofs.Stored.{sender-length}
 use Rattle.window_bytes.proofs.sender_in_order.Statement.{statement}
 use Rattle.window_bytes.proofs.sender_in_order.Tie as tie
 
+sender-in-requires : tie.Need-sender-in-requires
+sender-in-requires c κs = sender-length _ (sym (c .before .is-sender .ensures) ∙ c .if1 .taken)
+
 returns : tie.Need-returns
-unfolding isSender senderOrderAnswer
-returns c = simp (eq-eqb _ _ (c .before .before .before .if1 .taken), ap senderInOrder (sym (c .before .before .sender-in .ensures)) ∙ sym (c .before .in-order .ensures) ∙ c .if2 .taken)
+unfolding senderOrderAnswer
+returns c = simp (
+  sym (c .before .before .before .before .is-sender .ensures) ∙ c .before .before .before .if1 .taken,
+  ap senderInOrder (sym (c .before .before .sender-in .ensures)) ∙ sym (c .before .in-order .ensures) ∙ c .if2 .taken,
+)
 
 returns-2 : tie.Need-returns-2
-unfolding isSender senderOrderAnswer
-returns-2 c = simp (eq-eqb _ _ (c .before .before .before .if1 .taken), ap senderInOrder (sym (c .before .before .sender-in .ensures)) ∙ sym (c .before .in-order .ensures) ∙ c .if2 .left)
+unfolding senderOrderAnswer
+returns-2 c = simp (
+  sym (c .before .before .before .before .is-sender .ensures) ∙ c .before .before .before .if1 .taken,
+  ap senderInOrder (sym (c .before .before .sender-in .ensures)) ∙ sym (c .before .in-order .ensures) ∙ c .if2 .left,
+)
 
 returns-3 : tie.Need-returns-3
-unfolding isSender senderOrderAnswer
-returns-3 c = simp (ne-eqb _ _ (c .if1 .left))
+unfolding senderOrderAnswer
+returns-3 c = simp (sym (c .before .is-sender .ensures) ∙ c .if1 .left)
 
 pub sender-in-order-spec : {M : Type 1} → statement M
-sender-in-order-spec = tie.close (tie.spec (λ c κs. search needs) (λ c κs. search needs) returns returns-2 returns-3)
+sender-in-order-spec =
+    tie.close
+    (tie.spec (λ c κs. search needs) sender-in-requires (λ c κs. search needs) returns returns-2 returns-3)

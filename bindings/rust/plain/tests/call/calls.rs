@@ -23,37 +23,34 @@ pub fn make(name: &[u8], words: Words<'_>) -> Result<Printed, Reason> {
         b"pk_link_next" => next(words, link_next),
         b"pk_packet_distance" => distance(words, packet_distance),
         b"pk_packet_next" => next(words, packet_next),
-
         b"pk_sender_fresh" => on_state(words, lent::sender_fresh),
         b"pk_sender_in_order" => in_order(words, lent::sender_in_order),
         b"pk_sender_send" => on_state(words, lent::sender_send),
         b"pk_sender_acknowledge" => with_number(words, lent::sender_acknowledge),
-
+        b"pk_sender_ready" => with_number(words, lent::sender_ready),
+        b"pk_sender_not_ready" => with_number(words, lent::sender_not_ready),
+        b"pk_sender_reject" => with_number(words, lent::sender_reject),
         b"pk_receiver_fresh" => on_state(words, lent::receiver_fresh),
         b"pk_receiver_in_order" => in_order(words, lent::receiver_in_order),
         b"pk_receiver_receive" => with_number(words, lent::receiver_receive),
         b"pk_receiver_tell" => on_state(words, lent::receiver_tell),
-
         b"pk_resequencer_fresh" => on_state(words, lent::resequencer_fresh),
         b"pk_resequencer_in_order" => in_order(words, lent::resequencer_in_order),
         b"pk_resequencer_arrive" => resequencer_arrive(words),
         b"pk_resequencer_clock_end" => resequencer_clock_end(words),
-
         b"pk_frame_write" => frame_write(words),
+        b"pk_route_write" => route_write(words),
         b"pk_frame_read" => frame_read(words),
         b"pk_frame_fault" => frame_fault(words),
-
         b"pk_message_cut" => message_cut(words),
         b"pk_message_join" => message_join(words),
         b"pk_message_fault" => message_fault(words),
-
         b"pk_table_empty" => on_state(words, lent::table_empty),
         b"pk_table_codes" => at_address(words, lent::table_codes),
         b"pk_table_count" => at_address(words, lent::table_count),
         b"pk_table_choose" => table_choose(words),
         b"pk_table_update" => table_update(words),
         b"pk_choose" => choose(words),
-
         _ => Err("no such call".into()),
     }
 }
@@ -100,6 +97,13 @@ fn resequencer_clock_end(words: Words<'_>) -> Result<Printed, Reason> {
 fn frame_write(words: Words<'_>) -> Result<Printed, Reason> {
     let (form, packet, user, mut out): (u8, Bytes, Bytes, Bytes) = words.arguments()?;
     let answer = lent::frame_write(form, &packet, &user, &mut out);
+    Ok(Printed::answer(answer, U64).list(&out))
+}
+
+fn route_write(words: Words<'_>) -> Result<Printed, Reason> {
+    type Arguments = (u8, u8, u8, Bytes, Bytes, Bytes);
+    let (form, init, of, table, data, mut out): Arguments = words.arguments()?;
+    let answer = lent::route_write(form, init, of, &table, &data, &mut out);
     Ok(Printed::answer(answer, U64).list(&out))
 }
 

@@ -41,6 +41,9 @@ calls! {
     SenderInOrder "pk_sender_in_order" "window" [0, 14], [14];
     SenderSend "pk_sender_send" "window" [0, 14, 9], [14];
     SenderAcknowledge "pk_sender_acknowledge" "window" [0, 14, 1, 16], [14];
+    SenderReady "pk_sender_ready" "window" [0, 14, 1, 16], [14];
+    SenderNotReady "pk_sender_not_ready" "window" [0, 14, 1, 16], [14];
+    SenderReject "pk_sender_reject" "window" [0, 14, 1, 16], [14];
     ReceiverFresh "pk_receiver_fresh" "window" [0], [14];
     ReceiverInOrder "pk_receiver_in_order" "window" [0, 14], [14];
     ReceiverReceive "pk_receiver_receive" "window" [0, 14, 1, 12, 10, 11], [14];
@@ -50,6 +53,7 @@ calls! {
     ResequencerArrive "pk_resequencer_arrive" "resequencer" [0, 14, 1, 5], [0, 14, 1, 5];
     ResequencerClockEnd "pk_resequencer_clock_end" "resequencer" [0, 14, 1, 5, 7], [0, 14, 1, 5, 7];
     FrameWrite "pk_frame_write" "frames" [0, 1, 23, 13, 5], [1, 23];
+    RouteWrite "pk_route_write" "routes-frames" [0, 1, 23, 13, 5], [];
     FrameRead "pk_frame_read" "frames" [0, 1, 2, 3, 13, 5], [0, 1, 2, 3, 13, 5];
     FrameFault "pk_frame_fault" "frames" [0, 1, 2, 3, 13], [0, 1, 2, 3, 13];
     MessageCut "pk_message_cut" "messages" [0, 1, 23, 4, 5], [];
@@ -65,7 +69,7 @@ calls! {
 
 /// The subject that lends lists of other lengths.
 const LENGTHS: &str = "lengths";
-const SUBJECTS: usize = 9;
+const SUBJECTS: usize = 10;
 /// 23 is the largest refusal; 18 to 22 belong to calls that the header does not have.
 const NUMBERS: usize = 24;
 

@@ -6,8 +6,12 @@ use Rattle.frame.specs.Reading.{readNumber}
 use Rattle.frame.proofs.Read.number.Statement.{statement}
 use Rattle.frame.proofs.Read.number.Tie as tie
 
-returns-2 : tie.Need-returns-2
-returns-2 c = c .number .ensures ∙ sym (ap readNumber (c .before .before .self2 .given .1))
+returns-3 : tie.Need-returns-3
+returns-3 c = c .number .ensures ∙ sym (ap readNumber (c .before .before .self3 .given .1))
 
 pub number-spec : {M : Type 1} → statement M
-number-spec = tie.close (tie.spec (λ c. search needs) (λ c. search needs) (λ c κs. search needs) (λ c. search needs) returns-2)
+number-spec =
+    tie.close
+    (tie.spec
+    (λ c. search needs) (λ c. search needs) (λ c. search needs) (λ c κs. search needs) (λ c. search needs)
+    (λ c. search needs) returns-3)

@@ -27,11 +27,11 @@ module _ (form : Form) (s : Start) (m : List ℕ) (room places : ℕ) where
   bad-form good = rw good refl
 
   module _ (good : formValid form ≡ true) where
-    bad-number : fits (dataOf s false) 0 ≡ false → Refused OutOfRange ≡ cutVerdict form s m room places
+    bad-number : fits form (dataOf s false) 0 ≡ false → Refused OutOfRange ≡ cutVerdict form s m room places
     unfolding cutVerdict
     bad-number fit = rw (good, fit) refl
 
-    module _ (fit : fits (dataOf s false) 0 ≡ true) where
+    module _ (fit : fits form (dataOf s false) 0 ≡ true) where
       short-form : isLong form ≡ false → Refused ShortForm ≡ cutVerdict form s m room places
       unfolding cutVerdict
       short-form short = rw (good, fit, short) refl
@@ -59,8 +59,8 @@ module _ (form : Form) (s : Start) (m : List ℕ) (room places : ℕ) where
 good : (c : tie.Then1) → formValid (c .before .before .before .args .form) ≡ true
 good c = sym (c .before .is-valid .ensures) ∙ c .if1 .taken
 
-fit : (c : tie.Then2) → fits (dataOf (c .before .before .before .before .before .args .start) false) 0 ≡ true
-fit c = sym (c .before .fits2 .ensures) ∙ c .if2 .taken
+fit : (c : tie.Then2) → fits (c .before .before .before .before .before .args .form) (dataOf (c .before .before .before .before .before .args .start) false) 0 ≡ true
+fit c = sym (c .before .fits2 .ensures (c .before .before .before .before .before .args .form)) ∙ c .if2 .taken
 
 -- the function's start, seen from the place where the form is known to be long
 abbrev start : tie.Then3 → tie.Start
@@ -111,7 +111,7 @@ returns-5 c =
     let a = c .before .before .before .args in
     let valid = sym (c .before .is-valid .ensures) in
     ⊎-elim
-    (λ w. bad-number (a .form) (a .start) (a .message .now) (a .room) (a .places) (valid ∙ w .0 .taken) (sym (w .1 .ensures) ∙ w .2 .left))
+    (λ w. bad-number (a .form) (a .start) (a .message .now) (a .room) (a .places) (valid ∙ w .0 .taken) (sym (w .1 .ensures (a .form)) ∙ w .2 .left))
     (λ w. bad-form (a .form) (a .start) (a .message .now) (a .room) (a .places) (valid ∙ w .left))
     (c .if1 .came)
 

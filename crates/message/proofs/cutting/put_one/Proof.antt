@@ -13,10 +13,11 @@ use Rattle.frame_form.specs.declared.Form.{Form}
 use Rattle.frame_form.specs.Forms.{longSegment}
 use Rattle.frame_form.specs.Segments.{frameLength}
 use Rattle.frame_form.proofs.Forms.{long-segment}
+use Rattle.frame_writer.proofs.Verdicts.{accepts}
 use Rattle.frame.specs.declared.Packet.{Packet}
 use Rattle.frame.specs.declared.Packet.the-variants.{Data}
-use Rattle.frame.specs.Writing.{frameOf, frameVerdict, writeOutput}
-use Rattle.frame.proofs.Frames.{accepts, frame-length, output-is}
+use Rattle.frame.specs.Writing.{lengthOf, fits, frameOf, frameVerdict, writeOutput}
+use Rattle.frame.proofs.Frames.{frame-length, output-is}
 use Rattle.message.specs.CuttingParts.{splice, Ready}
 use Rattle.message.proofs.Sizes.{share-range}
 use Rattle.message.proofs.cutting.put_one.Statement.{statement}
@@ -30,7 +31,7 @@ module _ (form : Form) (q : Packet) (u o : List ℕ) (p i places : ℕ) (r : Rea
   part-filled : (part : List ℕ) → length part ≡ frameLength longSegment (3 + length u) → writeOutput form q u part ≡ frameOf form q u
   part-filled part e =
       let verdict : frameVerdict form q (length u) (length part) ≡ Done =
-      accepts form q (length u) (length part)
+      accepts form (fits form q (length u)) (lengthOf q (length u)) (length part)
       (record {
         good = r .good;
         fit = r .fit;

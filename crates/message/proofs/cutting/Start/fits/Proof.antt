@@ -8,7 +8,7 @@ use Rattle.message.proofs.cutting.Start.fits.Tie as tie
 
 returns : tie.Need-returns
 unfolding valuesFit
-returns c = simp (and-assoc, and-true)
+returns c form = simp (and-assoc, and-true)
 
 pub fits-spec : {M : Type 1} → statement M
 fits-spec = tie.close (tie.spec returns)
