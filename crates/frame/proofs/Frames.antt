@@ -29,7 +29,8 @@ use Rattle.frame_kinds.specs.declared.Kind.{Kind}
 use Rattle.frame_kinds.specs.declared.Found.{Found}
 use Rattle.frame_kinds.specs.declared.Found.the-variants.{Known, Route, Unknown}
 use Rattle.frame_kinds.specs.Kinds.{sizeOf, layoutOf, kinds}
-use Rattle.frame_kinds.proofs.Table.{sound, in-table, found}
+use Rattle.frame_kinds.proofs.Every.{in-table}
+use Rattle.frame_kinds.proofs.Table.{sound, found}
 use Rattle.frame_kinds.proofs.Stored.{header-few}
 use Rattle.frame_reader.specs.Faults.{packetLength, firstFault}
 use Rattle.frame_reader.specs.Reading.{foundIn, faultOf, lengthIn, readChecks}

@@ -4,11 +4,11 @@
 use mathlib.Core.Path.{_≡_, refl, sym, ap, _∙_, subst}
 use mathlib.Core.Bool.{Bool, true, false, cond}
 use mathlib.Core.List.{List, [], _∷_}
-use Prim.Native.Nat.{ℕ, zero, suc, _+_, _^_, _<_}
+use Prim.Native.Nat.{ℕ, zero, suc, _+_, _^_, _<_, _≤_}
 use native.Mathlib.Numerals.{add-one}
 use native.Mathlib.Omega.{arith}
 use lib.Dec.{ltb, eqb}
-use lib.ListN.{getD, drop}
+use lib.ListN.{length, getD, drop}
 use lib.Seq.{getD-drop, drop-drop}
 use borrow.Author.Tests.{ltb-true, eqb-true}
 use Rattle.refusal.proofs.Checks.{both-true}
@@ -22,7 +22,8 @@ use Rattle.frame.specs.declared.MaybeData.the-variants.{Data as SomeData
 use Rattle.frame.specs.declared.Data.{Data as DataFields}
 use Rattle.frame.specs.declared.Packet.the-variants.{Data, ClearRequest, ClearConfirmation, CallRequest, CallAccept, ReceiveReady, ReceiveNotReady, Reject, Interrupt, InterruptConfirmation, Reset, ResetConfirmation}
 use Rattle.little.specs.Little.{flag}
-use Rattle.frame_kinds.specs.Kinds.{layoutIn, layoutOf}
+use Rattle.frame_kinds.specs.Kinds.{layoutIn, layoutOf, freeCount, valueCount}
+use Rattle.frame_kinds.proofs.Table.{count-in}
 use Rattle.frame.specs.Packets.{kindOf, valuesOf, packetOf, asData}
 
 -- ---- flags
@@ -117,6 +118,42 @@ kept-all (free w ∷ fs) vs i (d ∷ ds) e h =
 pub values-made : (form : Form) (k : Kind) (vs : List ℕ) → within (fields (layoutOf form k)) vs ≡ true → valuesOf (packetOf k vs) ≡ vs
 values-made form k vs h = facts (isUplink form) k .keeps vs ∙ kept-all (fields (layoutOf form k)) vs 0 vs refl h
 
+-- ---- a packet's values, and what follows them
+
+-- a packet keeps no more values than there are free fields
+kept-same : (fs : List Field) (vs ws : List ℕ) (c i : ℕ) → ((j : ℕ) → j < c → getD vs j 0 ≡ getD ws j 0) → i + freeCount fs ≤ c → kept fs vs i ≡ kept fs ws i
+kept-same [] vs ws c i same h = refl
+kept-same (fixed w v ∷ fs) vs ws c i same h = kept-same fs vs ws c i same h
+kept-same (lv w ∷ fs) vs ws c i same h = kept-same fs vs ws c i same h
+kept-same (free w ∷ fs) vs ws c i same h =
+    let here : getD vs i 0 ≡ getD ws i 0 = same i (omega arith) in
+    λ j. cond (eqb w 1) (flag (eqb (here j) 1)) (here j) ∷ kept-same fs vs ws c (suc i) same (omega arith) j
+
+kept-length : (fs : List Field) (vs : List ℕ) (i : ℕ) → length (kept fs vs i) ≡ freeCount fs
+kept-length [] vs i = refl
+kept-length (fixed w v ∷ fs) vs i = kept-length fs vs i
+kept-length (lv w ∷ fs) vs i = kept-length fs vs i
+kept-length (free w ∷ fs) vs i = ap suc (kept-length fs vs (suc i))
+
+-- a packet has as many values as its kind
+pub counted : (p : Packet) → length (valuesOf p) ≡ valueCount (kindOf p)
+counted p =
+    let k = kindOf p in
+    ap (λ (q : Packet). length (valuesOf q)) (sym (packet-made p)) ∙ ap length (facts true k .keeps (valuesOf p))
+    ∙ kept-length (fields (layoutIn true k)) (valuesOf p) 0 ∙ count-in true k
+
+-- lists with the same values make the same packet
+pub values-same : (k : Kind) (vs ws : List ℕ) → ((j : ℕ) → j < valueCount k → getD vs j 0 ≡ getD ws j 0) → valuesOf (packetOf k vs) ≡ valuesOf (packetOf k ws)
+values-same k vs ws same =
+    let few : 0 + freeCount (fields (layoutIn true k)) ≤ valueCount k = omega (arith, count-in true k) in
+    facts true k .keeps vs ∙ kept-same (fields (layoutIn true k)) vs ws (valueCount k) 0 same few ∙ sym (facts true k .keeps ws)
+
+made-of : (k : Kind) (vs : List ℕ) → packetOf k (valuesOf (packetOf k vs)) ≡ packetOf k vs
+made-of k vs = ap (λ (j : Kind). packetOf j (valuesOf (packetOf k vs))) (sym (kind-made k vs)) ∙ packet-made (packetOf k vs)
+
+pub packet-same : (k : Kind) (vs ws : List ℕ) → ((j : ℕ) → j < valueCount k → getD vs j 0 ≡ getD ws j 0) → packetOf k vs ≡ packetOf k ws
+packet-same k vs ws same = sym (made-of k vs) ∙ ap (packetOf k) (values-same k vs ws same) ∙ made-of k ws
+
 -- ---- the DATA packet
 
 pub data-is : (p : Packet) (d : DataFields) → asData p ≡ SomeData d → p ≡ Data d
@@ -135,15 +172,4 @@ data-is (ResetConfirmation e) d h = let z : _≡_ {A = ℕ} 0 1 = cc in absurd (
 
 -- a packet that is DATA was made of that kind
 pub data-kind : (k : Kind) (vs : List ℕ) (d : DataFields) → asData (packetOf k vs) ≡ SomeData d → k ≡ DataKind
-data-kind DataKind vs d h = refl
-data-kind ClearRequestKind vs d h = let z : _≡_ {A = ℕ} 0 1 = cc in absurd (omega arith)
-data-kind ClearConfirmationKind vs d h = let z : _≡_ {A = ℕ} 0 1 = cc in absurd (omega arith)
-data-kind CallRequestKind vs d h = let z : _≡_ {A = ℕ} 0 1 = cc in absurd (omega arith)
-data-kind CallAcceptKind vs d h = let z : _≡_ {A = ℕ} 0 1 = cc in absurd (omega arith)
-data-kind ReceiveReadyKind vs d h = let z : _≡_ {A = ℕ} 0 1 = cc in absurd (omega arith)
-data-kind ReceiveNotReadyKind vs d h = let z : _≡_ {A = ℕ} 0 1 = cc in absurd (omega arith)
-data-kind RejectKind vs d h = let z : _≡_ {A = ℕ} 0 1 = cc in absurd (omega arith)
-data-kind InterruptKind vs d h = let z : _≡_ {A = ℕ} 0 1 = cc in absurd (omega arith)
-data-kind InterruptConfirmationKind vs d h = let z : _≡_ {A = ℕ} 0 1 = cc in absurd (omega arith)
-data-kind ResetKind vs d h = let z : _≡_ {A = ℕ} 0 1 = cc in absurd (omega arith)
-data-kind ResetConfirmationKind vs d h = let z : _≡_ {A = ℕ} 0 1 = cc in absurd (omega arith)
+data-kind k vs d h = sym (kind-made k vs) ∙ ap kindOf (data-is (packetOf k vs) d h)

@@ -2,14 +2,14 @@
 -- what the typed calls do.
 -- Assumes nothing.
 use mathlib.Core.Path.{_≡_, refl, sym, ap, ap₂, _∙_}
-use mathlib.Core.Bool.{Bool, true, false, cond, and-true}
+use mathlib.Core.Bool.{Bool, true, false, cond, _&&_, and-true}
 use mathlib.Core.List.{List, [], _∷_, _++_, append-nil}
 use Prim.Native.Nat.{ℕ, zero, suc, _+_, _-_, _*_, _/_, _%_, _^_, _≤_}
 use native.Mathlib.Omega.{arith}
 use lib.Dec.{eqb}
 use lib.ListN.{length, getD, take, drop, replicate}
 use lib.Pow.{high, low}
-use lib.Seq.{getD-take}
+use lib.Seq.{getD-take, take-at, drop-at}
 use borrow.Author.Tests.{eq-eqb, ne-eqb}
 use Rattle.refusal.specs.declared.Refusal.{Refusal}
 use Rattle.refusal.specs.declared.Refusal.the-variants.{OutOfRange}
@@ -23,29 +23,34 @@ use Rattle.little.specs.Little.{flag}
 use Rattle.frame_form.specs.declared.Form.{Form}
 use Rattle.frame_form.specs.Forms.{segOf, formValid, isUplink, formAt, formCode}
 use Rattle.frame_form.specs.Segments.{frameLength}
+use Rattle.frame_form.specs.Frames.{allZero}
 use Rattle.frame_form.proofs.Forms.{code-back, code-none}
+use Rattle.frame_form.proofs.Frames.{zeros-zero}
 use Rattle.frame_kinds.specs.declared.Kind.{Kind}
-use Rattle.frame_kinds.specs.declared.Kind.the-variants.{Data as DataKind, ClearRequest as ClearRequestKind, ClearConfirmation as ClearConfirmationKind, CallRequest as CallRequestKind, CallAccept as CallAcceptKind, ReceiveReady as ReceiveReadyKind, ReceiveNotReady as ReceiveNotReadyKind, Reject as RejectKind, Interrupt as InterruptKind, InterruptConfirmation as InterruptConfirmationKind, Reset as ResetKind, ResetConfirmation as ResetConfirmationKind}
+use Rattle.frame_kinds.specs.declared.Kind.the-variants.{Data as DataKind}
 use Rattle.frame_kinds.specs.declared.Found.{Found}
 use Rattle.frame_kinds.specs.declared.Found.the-variants.{Known, Route, Unknown}
 use Rattle.frame_kinds.specs.Kinds.{sizeOf, routeLayout, kindNumber, routeNumber, kindAt, valueCount, tenOf, tenBytes}
 use Rattle.frame_kinds.proofs.Table.{values-nine}
-use Rattle.frame_kinds.proofs.Stored.{number-back, header-few, ten-length}
+use Rattle.frame_kinds.proofs.Stored.{number-back, not-route, header-few, values-few, ten-length}
 use Rattle.frame_reader.specs.Reading.{foundIn, lengthIn, headerLength, userLength, valuesAs, packetIn, readChecks, faultAnswer, readAnswer, readBytes}
 use Rattle.frame_reader.proofs.Cases.{refused-answer, refused-fault, passed-answer, passed-bytes, form-refused}
-use Rattle.frame_writer.specs.Writing.{packetSize, frameBy, writeVerdict, outputBy, answerBy, placesFit, placesVerdict, dataPlaces, writeAnswerBy, writeAnswer, writeBytesBy, writeBytes}
+use Rattle.frame_writer.specs.Writing.{packetSize, valuesFit, frameBy, writeVerdict, outputBy, answerBy, placesFit, placesVerdict, dataPlaces, writeAnswerBy, writeAnswer, writeBytesBy, writeBytes}
 use Rattle.frame_writer.specs.Routes.{routeLength, routeFrame, routeVerdict, routeAnswer, routeBytes}
 use Rattle.frame_writer.proofs.Answers.{ten-answer, ten-bytes}
 use Rattle.frame.specs.declared.Packet.{Packet}
 use Rattle.frame.specs.declared.Data.{Data as DataFields}
-use Rattle.frame.specs.declared.Packet.the-variants.{Data, ClearRequest, ClearConfirmation, CallRequest, CallAccept, ReceiveReady, ReceiveNotReady, Reject, Interrupt, InterruptConfirmation, Reset, ResetConfirmation}
+use Rattle.frame.specs.declared.Packet.the-variants.{Data}
+use Rattle.frame.specs.declared.MaybeData.{MaybeData}
+use Rattle.frame.specs.declared.MaybeData.the-variants.{Nothing, Data as SomeData}
 use Rattle.frame.specs.declared.UserData.{UserData}
 use Rattle.frame.specs.declared.Read.{Read}
 use Rattle.frame.specs.declared.Read.the-variants.{Packet as PacketRead, Route as RouteRead, Refused as NotRead}
-use Rattle.frame.specs.Packets.{kindOf, valuesOf, dataOf, packetOf, packetBytes, kindOr, packetAt}
+use Rattle.frame.specs.Packets.{kindOf, valuesOf, dataOf, packetOf, packetBytes, kindOr, packetAt, asData}
 use Rattle.frame.specs.Routes.{writeRouteOf, writeRouteOutput}
 use Rattle.frame.specs.declared.DataRead.the-variants.{Data as DataIsRead, Other as OtherRead, Refused as DataRefused}
-use Rattle.frame.specs.Reading.{routeOf, placeIn, readAt, readBy, readOf, dataReadOf}
+use Rattle.frame.specs.Reading.{routeOf, placeIn, readAt, readBy, readOf, dataReadBy, dataReadOf}
+use Rattle.frame.proofs.KindLaws.{counted, packet-same, data-kind}
 use Rattle.frame.proofs.Contents.{freeIn}
 use Rattle.frame.proofs.Frames.{checks-passed, never-unknown}
 use Rattle.frame.specs.Writing.{lengthOf, fits, frameOf, frameVerdict, writtenBy, writtenAt, writeOf, writeOutput}
@@ -56,49 +61,19 @@ use Rattle.frame.specs.Writing.{lengthOf, fits, frameOf, frameVerdict, w
 abbrev pub placesOf : Packet → List ℕ
 placesOf p = valuesOf p ++ replicate (9 - length (valuesOf p)) 0
 
-places-values : (p : Packet) → take (valueCount (kindOf p)) (placesOf p) ≡ valuesOf p
-places-values (Data d) = refl
-places-values (ClearRequest d) = refl
-places-values (ClearConfirmation d) = refl
-places-values (CallRequest d) = refl
-places-values (CallAccept d) = refl
-places-values (ReceiveReady d) = refl
-places-values (ReceiveNotReady d) = refl
-places-values (Reject d) = refl
-places-values (Interrupt d) = refl
-places-values (InterruptConfirmation d) = refl
-places-values (Reset d) = refl
-places-values (ResetConfirmation d) = refl
+pub places-values : (p : Packet) → take (valueCount (kindOf p)) (placesOf p) ≡ valuesOf p
+places-values p = take-at (valuesOf p) (replicate (9 - length (valuesOf p)) 0) (valueCount (kindOf p)) (counted p)
 
-places-fit : (form : Form) (p : Packet) (user : ℕ) → placesFit form (kindOf p) (placesOf p) user ≡ fits form p user
+pub places-fit : (form : Form) (p : Packet) (user : ℕ) → placesFit form (kindOf p) (placesOf p) user ≡ fits form p user
 unfolding placesFit
-places-fit form (Data d) user = and-true (fits form (Data d) user)
-places-fit form (ClearRequest d) user = and-true (fits form (ClearRequest d) user)
-places-fit form (ClearConfirmation d) user = and-true (fits form (ClearConfirmation d) user)
-places-fit form (CallRequest d) user = and-true (fits form (CallRequest d) user)
-places-fit form (CallAccept d) user = and-true (fits form (CallAccept d) user)
-places-fit form (ReceiveReady d) user = and-true (fits form (ReceiveReady d) user)
-places-fit form (ReceiveNotReady d) user = and-true (fits form (ReceiveNotReady d) user)
-places-fit form (Reject d) user = and-true (fits form (Reject d) user)
-places-fit form (Interrupt d) user = and-true (fits form (Interrupt d) user)
-places-fit form (InterruptConfirmation d) user = and-true (fits form (InterruptConfirmation d) user)
-places-fit form (Reset d) user = and-true (fits form (Reset d) user)
-places-fit form (ResetConfirmation d) user = and-true (fits form (ResetConfirmation d) user)
+places-fit form p user =
+    let zeros : List ℕ = replicate (9 - length (valuesOf p)) 0 in
+    let none : allZero (drop (valueCount (kindOf p)) (placesOf p)) ≡ true =
+    ap allZero (drop-at (valuesOf p) zeros (valueCount (kindOf p)) (counted p)) ∙ zeros-zero (9 - length (valuesOf p)) in
+    ap₂ (λ (vs : List ℕ) (b : Bool). valuesFit form (kindOf p) vs user && b) (places-values p) none ∙ and-true (fits form p user)
 
 pub ten : (p : Packet) → length (packetBytes p) ≡ 10
-unfolding tenOf
-ten (Data d) = refl
-ten (ClearRequest d) = refl
-ten (ClearConfirmation d) = refl
-ten (CallRequest d) = refl
-ten (CallAccept d) = refl
-ten (ReceiveReady d) = refl
-ten (ReceiveNotReady d) = refl
-ten (Reject d) = refl
-ten (Interrupt d) = refl
-ten (InterruptConfirmation d) = refl
-ten (Reset d) = refl
-ten (ResetConfirmation d) = refl
+ten p = ten-length (kindNumber (kindOf p)) (valuesOf p) (omega (arith, counted p, values-few (kindOf p)))
 
 -- the answer's number gives the answer
 written-back : (v : Verdict) (len : ℕ) → writtenAt (answerBy v len) ≡ writtenBy v len
@@ -216,47 +191,19 @@ all-ten n vs few =
     ap (λ (m : ℕ). tenOf n vs ++ drop m (replicate 10 0)) (ten-length n vs few) ∙ append-nil (tenOf n vs)
 
 -- zeros after the values are no values
-pad-get : (vs : List ℕ) (n i : ℕ) → getD (vs ++ replicate n 0) i 0 ≡ getD vs i 0
+pub pad-get : (vs : List ℕ) (n i : ℕ) → getD (vs ++ replicate n 0) i 0 ≡ getD vs i 0
 pad-get [] zero i = refl
 pad-get [] (suc n) zero = refl
 pad-get [] (suc n) (suc i) = pad-get [] n i
 pad-get (v ∷ vs) n zero = refl
 pad-get (v ∷ vs) n (suc i) = pad-get vs n i
 
-padded : (k : Kind) (vs : List ℕ) (n : ℕ) → packetOf k (vs ++ replicate n 0) ≡ packetOf k vs
-padded DataKind vs n = simp (pad-get vs n 0, pad-get vs n 1, pad-get vs n 2, pad-get vs n 3, pad-get vs n 4)
-padded ClearRequestKind vs n = simp (pad-get vs n 0, pad-get vs n 1, pad-get vs n 2, pad-get vs n 3, pad-get vs n 4, pad-get vs n 5, pad-get vs n 6, pad-get vs n 7, pad-get vs n 8)
-padded ClearConfirmationKind vs n = simp (pad-get vs n 0, pad-get vs n 1, pad-get vs n 2, pad-get vs n 3, pad-get vs n 4)
-padded CallRequestKind vs n = simp (pad-get vs n 0, pad-get vs n 1, pad-get vs n 2, pad-get vs n 3, pad-get vs n 4, pad-get vs n 5, pad-get vs n 6, pad-get vs n 7, pad-get vs n 8)
-padded CallAcceptKind vs n = simp (pad-get vs n 0, pad-get vs n 1, pad-get vs n 2, pad-get vs n 3, pad-get vs n 4, pad-get vs n 5, pad-get vs n 6)
-padded ReceiveReadyKind vs n = simp (pad-get vs n 0, pad-get vs n 1, pad-get vs n 2)
-padded ReceiveNotReadyKind vs n = simp (pad-get vs n 0, pad-get vs n 1, pad-get vs n 2)
-padded RejectKind vs n = simp (pad-get vs n 0, pad-get vs n 1, pad-get vs n 2)
-padded InterruptKind vs n = simp (pad-get vs n 0, pad-get vs n 1, pad-get vs n 2, pad-get vs n 3)
-padded InterruptConfirmationKind vs n = simp (pad-get vs n 0, pad-get vs n 1)
-padded ResetKind vs n = simp (pad-get vs n 0, pad-get vs n 1, pad-get vs n 2, pad-get vs n 3)
-padded ResetConfirmationKind vs n = simp (pad-get vs n 0, pad-get vs n 1)
-
--- no kind has the number of ROUTE
-not-route : (k : Kind) → eqb (kindNumber k) routeNumber ≡ false
-not-route DataKind = refl
-not-route ClearRequestKind = refl
-not-route ClearConfirmationKind = refl
-not-route CallRequestKind = refl
-not-route CallAcceptKind = refl
-not-route ReceiveReadyKind = refl
-not-route ReceiveNotReadyKind = refl
-not-route RejectKind = refl
-not-route InterruptKind = refl
-not-route InterruptConfirmationKind = refl
-not-route ResetKind = refl
-not-route ResetConfirmationKind = refl
-
 -- the ten bytes of a kind and its values give the packet
 packet-back : (k : Kind) (vs : List ℕ) → packetAt (tenBytes k vs) ≡ packetOf k vs
 unfolding packetAt tenOf
 packet-back k vs =
-    ap (λ (f : Found). packetOf (kindOr f) (vs ++ replicate (9 - length vs) 0)) (number-back k) ∙ padded k vs (9 - length vs)
+    ap (λ (f : Found). packetOf (kindOr f) (vs ++ replicate (9 - length vs) 0)) (number-back k)
+    ∙ packet-same k (vs ++ replicate (9 - length vs) 0) vs (λ j l. pad-get vs (9 - length vs) j)
 
 known-at : (k : Kind) (vs : List ℕ) (user : UserData) → readAt (tenBytes k vs) user ≡ PacketRead (packetOf k vs) user
 unfolding readAt tenOf
@@ -364,18 +311,11 @@ data-front xs = simp (getD-take 9 xs 0 0 (omega arith), getD-take 9 xs 1 0 (omeg
 
 -- and no other kind has that number
 other-kind : (k : Kind) (vs : List ℕ) (place : UserData) → (kindNumber k ≡ 0 → ⊥) → OtherRead ≡ dataReadOf (PacketRead (packetOf k vs) place)
-other-kind DataKind vs place h = absurd (h refl)
-other-kind ClearRequestKind vs place h = refl
-other-kind ClearConfirmationKind vs place h = refl
-other-kind CallRequestKind vs place h = refl
-other-kind CallAcceptKind vs place h = refl
-other-kind ReceiveReadyKind vs place h = refl
-other-kind ReceiveNotReadyKind vs place h = refl
-other-kind RejectKind vs place h = refl
-other-kind InterruptKind vs place h = refl
-other-kind InterruptConfirmationKind vs place h = refl
-other-kind ResetKind vs place h = refl
-other-kind ResetConfirmationKind vs place h = refl
+other-kind k vs place h = go (asData (packetOf k vs)) refl
+  where
+    go : (x : MaybeData) → asData (packetOf k vs) ≡ x → OtherRead ≡ dataReadBy x place
+    go Nothing e = refl
+    go (SomeData d) e = absurd (h (ap kindNumber (data-kind k vs d e)))
 
 module _ (form : Form) (frame : List ℕ) (number answer : ℕ) (bytes : List ℕ) (en : number ≡ formCode form) (ea : answer ≡ readAnswer number frame 10)
     (eb : bytes ≡ readBytes number frame (replicate 10 0)) where

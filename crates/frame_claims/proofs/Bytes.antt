@@ -45,7 +45,8 @@ use Rattle.frame_claims.specs.ByLayout.{CanHold}
 use Rattle.frame_claims.specs.Bytes.{frameWritten, userNamed, BytesRead, BytesWritten, BytesAreFrame, FrameIsBytes, NoRoute, ReadBackOfBytes}
 use Rattle.frame_claims.proofs.ByLayout.{part-length, by-layout}
 use Rattle.frame_claims.proofs.ReadBack.{read-back}
-use Rattle.frame_claims.proofs.Stored.{values-taken, round-trips}
+use Rattle.frame.proofs.Ten.{places-values}
+use Rattle.frame_claims.proofs.Stored.{round-trips}
 
 -- ---- a call of `write`
 
@@ -60,7 +61,7 @@ one-number (Refused why) len = refl
 -- the values are the first of the nine bytes after the first
 values-first : (p : Packet) → take (valueCount (kindOf p)) (drop 1 (packetBytes p)) ≡ valuesOf p
 unfolding tenOf
-values-first p = values-taken p
+values-first p = places-values p
 
 -- the calls on ten bytes of a packet do what those on the packet do
 module _ (form : ℕ) (p : Packet) where

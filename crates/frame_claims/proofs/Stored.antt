@@ -2,14 +2,14 @@
 -- check.
 -- Assumes nothing.
 use mathlib.Core.Path.{_≡_, refl, sym, ap, ap₂, _∙_}
-use mathlib.Core.Bool.{Bool, true, false, cond, _&&_, _||_, and-true}
+use mathlib.Core.Bool.{Bool, true, false, cond, _&&_, _||_}
 use mathlib.Core.Logic.{_≢_}
 use mathlib.Core.List.{List, [], _∷_, _++_}
-use Prim.Native.Nat.{ℕ, suc, _+_, _-_, _*_, _/_, _%_, _≤_}
+use Prim.Native.Nat.{ℕ, _+_, _-_, _*_, _/_, _%_, _≤_}
 use native.Mathlib.Omega.{arith}
 use lib.Dec.{leb, eqb}
 use lib.ListN.{length, getD, take, drop, replicate, length-drop, take-append-drop}
-use lib.Seq.{getD-take, take-at, drop-at, length-take-le}
+use lib.Seq.{getD-take, length-take-le}
 use borrow.Author.Tests.{eqb-true}
 use Rattle.refusal.specs.declared.Refusal.the-variants.{OutOfRange, OutputTooShort}
 use Rattle.refusal.specs.declared.Verdict.{Verdict}
@@ -19,89 +19,36 @@ use Rattle.refusal.specs.Positions.{Checked, passed, refusedAt}
 use Rattle.refusal.proofs.Checks.{both-true}
 use Rattle.refusal.proofs.Numbers.{number-alone}
 use Rattle.lists.specs.Lists.{over}
-use Rattle.little.specs.Little.{flag}
-use Rattle.frame_fields.specs.Layouts.{Field, fixed, free, lv, fields, hasLv, within}
+use Rattle.frame_fields.specs.Layouts.{fields, hasLv, within}
 use Rattle.frame_form.specs.declared.Form.{Form}
 use Rattle.frame_form.specs.Forms.{formAt, segOf}
 use Rattle.frame_form.specs.Segments.{frameLength}
 use Rattle.frame_form.specs.Frames.{allZero}
-use Rattle.frame_form.proofs.Frames.{zeros-zero, zero-zeros}
+use Rattle.frame_form.proofs.Frames.{zero-zeros}
 use Rattle.frame_kinds.specs.declared.Kind.{Kind}
 use Rattle.frame_kinds.specs.declared.Found.{Found}
 use Rattle.frame_kinds.specs.declared.Found.the-variants.{Known, Route, Unknown}
-use Rattle.frame_kinds.specs.Kinds.{layoutIn, layoutOf, kinds, kindNumber, routeNumber, firstNumbered, kindAt, freeCount, valueCount, tenOf, tenBytes}
+use Rattle.frame_kinds.specs.Kinds.{layoutOf, kinds, kindNumber, routeNumber, firstNumbered, kindAt, valueCount, tenOf, tenBytes}
 use Rattle.frame_kinds.proofs.Stored.{number-back, values-few}
-use Rattle.frame_kinds.proofs.Table.{count-in}
 use Rattle.frame_reader.specs.Reading.{foundIn, headerLength, userLength, readChecks, readAnswerBy, readAnswer, packetIn, readBytesBy, readBytes}
 use Rattle.frame_writer.specs.Writing.{packetSize, valuesFit, frameBy, outputBy, answerBy, placesFit, placesVerdict, writeAnswerBy, writeAnswer, writeBytesBy, writeBytes}
 use Rattle.frame.specs.declared.Packet.{Packet}
 use Rattle.frame.specs.Packets.{kindOf, valuesOf, packetOf, packetBytes, kindOr, packetAt}
-use Rattle.frame.specs.Writing.{fits}
-use Rattle.frame.proofs.KindLaws.{kept, facts, packet-made, kind-made, values-made}
-use Rattle.frame.proofs.Ten.{ten}
+use Rattle.frame.proofs.KindLaws.{packet-made, kind-made, values-made, values-same, packet-same}
+use Rattle.frame.proofs.Ten.{placesOf, ten, places-fit, pad-get}
 use Rattle.frame_claims.specs.Stored.{PacketBack, RoundTrips, RefusedBytesChangeNothing}
 
--- ---- a packet's values, and the places that follow them
-
--- a packet keeps no more values than there are free fields
-kept-cut : (fs : List Field) (vs : List ℕ) (c i : ℕ) → i + freeCount fs ≤ c → kept fs (take c vs) i ≡ kept fs vs i
-kept-cut [] vs c i h = refl
-kept-cut (fixed w v ∷ fs) vs c i h = kept-cut fs vs c i h
-kept-cut (lv w ∷ fs) vs c i h = kept-cut fs vs c i h
-kept-cut (free w ∷ fs) vs c i h =
-    let here : getD (take c vs) i 0 ≡ getD vs i 0 = getD-take c vs i 0 (omega arith) in
-    λ j. cond (eqb w 1) (flag (eqb (here j) 1)) (here j) ∷ kept-cut fs vs c (suc i) (omega arith) j
-
-kept-length : (fs : List Field) (vs : List ℕ) (i : ℕ) → length (kept fs vs i) ≡ freeCount fs
-kept-length [] vs i = refl
-kept-length (fixed w v ∷ fs) vs i = kept-length fs vs i
-kept-length (lv w ∷ fs) vs i = kept-length fs vs i
-kept-length (free w ∷ fs) vs i = ap suc (kept-length fs vs (suc i))
-
--- the packet of a kind is that of the values, whatever follows them
-values-cut : (k : Kind) (vs : List ℕ) → valuesOf (packetOf k (take (valueCount k) vs)) ≡ valuesOf (packetOf k vs)
-values-cut k vs =
-    let few : 0 + freeCount (fields (layoutIn true k)) ≤ valueCount k = omega (arith, count-in true k) in
-    facts true k .keeps (take (valueCount k) vs) ∙ kept-cut (fields (layoutIn true k)) vs (valueCount k) 0 few ∙ sym (facts true k .keeps vs)
-
-made-of : (k : Kind) (vs : List ℕ) → packetOf k (valuesOf (packetOf k vs)) ≡ packetOf k vs
-made-of k vs = ap (λ (j : Kind). packetOf j (valuesOf (packetOf k vs))) (sym (kind-made k vs)) ∙ packet-made (packetOf k vs)
-
-packet-cut : (k : Kind) (vs : List ℕ) → packetOf k vs ≡ packetOf k (take (valueCount k) vs)
-packet-cut k vs = sym (made-of k vs) ∙ ap (packetOf k) (sym (values-cut k vs)) ∙ made-of k (take (valueCount k) vs)
-
--- a packet has as many values as its kind
-counted : (p : Packet) → length (valuesOf p) ≡ valueCount (kindOf p)
-counted p =
-    let k = kindOf p in
-    ap (λ (q : Packet). length (valuesOf q)) (sym (packet-made p)) ∙ ap length (facts true k .keeps (valuesOf p))
-    ∙ kept-length (fields (layoutIn true k)) (valuesOf p) 0 ∙ count-in true k
-
 -- ---- a packet in its ten bytes
-
-abbrev placesOf : Packet → List ℕ
-placesOf p = valuesOf p ++ replicate (9 - length (valuesOf p)) 0
-
-pub values-taken : (p : Packet) → take (valueCount (kindOf p)) (placesOf p) ≡ valuesOf p
-values-taken p = take-at (valuesOf p) (replicate (9 - length (valuesOf p)) 0) (valueCount (kindOf p)) (counted p)
-
-places-fit : (p : Packet) (form : Form) (user : ℕ) → placesFit form (kindOf p) (placesOf p) user ≡ fits form p user
-unfolding placesFit
-places-fit p form user =
-    let zeros : List ℕ = replicate (9 - length (valuesOf p)) 0 in
-    let none : allZero (drop (valueCount (kindOf p)) (placesOf p)) ≡ true =
-    ap allZero (drop-at (valuesOf p) zeros (valueCount (kindOf p)) (counted p)) ∙ zeros-zero (9 - length (valuesOf p)) in
-    ap₂ (λ (vs : List ℕ) (b : Bool). valuesFit form (kindOf p) vs user && b) (values-taken p) none ∙ and-true (fits form p user)
 
 same-packet : (p : Packet) → packetAt (packetBytes p) ≡ p
 unfolding packetAt tenOf
 same-packet p =
     ap (λ (found : Found). packetOf (kindOr found) (placesOf p)) (number-back (kindOf p))
-    ∙ packet-cut (kindOf p) (placesOf p) ∙ ap (packetOf (kindOf p)) (values-taken p) ∙ packet-made p
+    ∙ packet-same (kindOf p) (placesOf p) (valuesOf p) (λ j l. pad-get (valuesOf p) (9 - length (valuesOf p)) j) ∙ packet-made p
 
 packet-back : (p : Packet) → PacketBack p
 unfolding tenOf
-packet-back p = record { ten = ten p; kind = number-back (kindOf p); places = places-fit p; back = same-packet p }
+packet-back p = record { ten = ten p; kind = number-back (kindOf p); places = λ form user. places-fit form p user; back = same-packet p }
 
 -- ---- ten bytes that are taken as a packet
 
@@ -148,7 +95,7 @@ taken form [] k user long kind fit = absurd (omega arith)
 taken form (n ∷ places) k user long kind fit =
     let c = valueCount k in
     let parts = fit-parts form k places user fit in
-    let values : valuesOf (packetOf k places) ≡ take c places = sym (values-cut k places) ∙ values-made form k (take c places) (parts .0) in
+    let values : valuesOf (packetOf k places) ≡ take c places = values-same k places (take c places) (λ j l. sym (getD-take c places j 0 l)) ∙ values-made form k (take c places) (parts .0) in
     ap₂ tenBytes (kind-made k places) values
     ∙ ap₂ (λ (m : ℕ) (l : List ℕ). m ∷ l) (sym (known-number n k kind)) (nine c places (values-few k) (omega arith) (parts .1))
 

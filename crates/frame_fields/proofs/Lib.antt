@@ -6,3 +6,4 @@ pub mod Masks
 pub mod Tags
 pub mod Sums
 pub mod Bytes
+pub mod Ends

@@ -2,7 +2,7 @@
 -- those of another.
 -- Assumes nothing.
 use mathlib.Core.Path.{_≡_, refl, sym, ap, ap₂, _∙_, subst}
-use mathlib.Core.Bool.{Bool, true, false, _&&_, not}
+use mathlib.Core.Bool.{Bool, true, false, _&&_, _||_, not, true≢false}
 use mathlib.Core.List.{List, [], _∷_, _++_}
 use Prim.Native.Nat.{ℕ, zero, suc, _+_, _-_, _*_, _/_, _%_, _^_, _<_, _≤_}
 use native.Mathlib.Nat.{mod-eq-of-lt, div-lt-iff-lt-mul}
@@ -10,7 +10,7 @@ use native.Mathlib.Omega.{arith}
 use lib.Dec.{leb, ltb, eqb}
 use lib.ListN.{getD}
 use lib.Pow.{shr-shr, pow-add, pow-pos}
-use borrow.Author.Tests.{leb-true, not-true}
+use borrow.Author.Tests.{leb-true, eqb-true, eq-eqb, not-true}
 use Rattle.refusal.proofs.Checks.{both-true}
 use Rattle.frame_fields.specs.Rows.{total, packAfter, pack, InRange, eights, bytesOf}
 use Rattle.frame_fields.specs.Layouts.{Field, fixed, free, lv, Layout, fields, widths, allValues, within, headerNumber, header, tagWidth, tag, opensWith}
@@ -33,6 +33,30 @@ pub record Sound (m : ℕ) (l : Layout) : Type 0 where
   pub bytewise : inBytes (fields l) 0 ≡ true
   pub single : oneLv (fields l) ≡ true
   pub short : tagWidth (l .kind) ≤ 8
+
+-- whether a layout meets them
+abbrev pub isSound : ℕ → Layout → Bool
+isSound m l =
+    eqb (total (widths (fields l))) (total (eights (l .size)))
+    && (holds m (fields l) && (leb 1 (l .size) && (allFixed (l .kind) && (inBytes (fields l) 0 && (oneLv (fields l) && leb (tagWidth (l .kind)) 8)))))
+
+pub sound-if : (m : ℕ) (l : Layout) → isSound m l ≡ true → Sound m l
+sound-if m l e =
+    let a = both-true (eqb (total (widths (fields l))) (total (eights (l .size)))) _ e in
+    let b = both-true (holds m (fields l)) _ (a .1) in
+    let c = both-true (leb 1 (l .size)) _ (b .1) in
+    let d = both-true (allFixed (l .kind)) _ (c .1) in
+    let f = both-true (inBytes (fields l) 0) _ (d .1) in
+    let g = both-true (oneLv (fields l)) _ (f .1) in
+    record {
+      bits = eqb-true _ _ (a .0);
+      values = b .0;
+      bytes = leb-true _ _ (c .0);
+      named = d .0;
+      bytewise = f .0;
+      single = g .0;
+      short = leb-true _ _ (g .1);
+    }
 
 widths-append : (fs gs : List Field) → widths (fs ++ gs) ≡ widths fs ++ widths gs
 widths-append [] gs = refl
@@ -109,3 +133,18 @@ opens-not l k b short h e =
     let bits : b / 2 ^ (8 - tagWidth l) ≡ tag k / 2 ^ (tagWidth k - tagWidth l) =
     ap (λ (x : ℕ). b / 2 ^ x) (sym rest) ∙ sym (shr-shr b (8 - tagWidth k) (tagWidth k - tagWidth l)) ∙ ap (λ (x : ℕ). x / 2 ^ (tagWidth k - tagWidth l)) e in
     ap (λ (x : ℕ). eqb x (tag l)) bits ∙ not-true (eqb (tag k / 2 ^ (tagWidth k - tagWidth l)) (tag l)) (p .1)
+
+-- the same, whichever has fewer such bits
+abbrev pub distinct : List Field → List Field → Bool
+distinct l k = apart l k || apart k l
+
+pub opens-other : (l k : List Field) (b : ℕ) → tagWidth l ≤ 8 → tagWidth k ≤ 8 → distinct l k ≡ true → b / 2 ^ (8 - tagWidth k) ≡ tag k → opensWith l b ≡ false
+opens-other l k b few short h e = go (apart l k) (opensWith l b) refl refl
+  where
+    go : (a o : Bool) → apart l k ≡ a → opensWith l b ≡ o → o ≡ false
+    go true o p q = sym q ∙ opens-not l k b short p e
+    go false false p q = refl
+    go false true p q =
+        let other : apart k l ≡ true = sym (ap (λ (x : Bool). x || apart k l) p) ∙ h in
+        let not-k : opensWith k b ≡ false = opens-not k l b few other (eqb-true _ _ q) in
+        absurd (true≢false (sym (eq-eqb (b / 2 ^ (8 - tagWidth k)) (tag k) e) ∙ not-k))

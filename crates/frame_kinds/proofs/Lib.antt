@@ -1,4 +1,5 @@
 -- What is proved of the kinds.
 
+pub mod Every
 pub mod Table
 pub mod Stored

@@ -10,15 +10,16 @@ use native.Mathlib.Omega.{arith}
 use lib.ListN.{getD}
 use Rattle.frame_fields.specs.Rows.{unpack}
 use Rattle.frame_fields.specs.Layouts.{Layout, fields, widths, hasLv, freeValues, lvIn}
+use Rattle.frame_fields.proofs.Ends.{lv-ends}
 use Rattle.frame_fields.proofs.Tags.{Sound}
 use Rattle.frame_form.specs.declared.Form.{Form}
 use Rattle.frame_form.specs.Forms.{isUplink}
 use Rattle.frame_kinds.specs.declared.Kind.{Kind}
-use Rattle.frame_kinds.specs.declared.Kind.the-variants.{Data, ClearRequest, ClearConfirmation, CallRequest, CallAccept, ReceiveReady, ReceiveNotReady, Reject, Interrupt, InterruptConfirmation, Reset, ResetConfirmation}
+use Rattle.frame_kinds.specs.declared.Kind.the-variants.{CallRequest, CallAccept}
 use Rattle.frame_kinds.specs.declared.Found.{Found}
 use Rattle.frame_kinds.specs.declared.Found.the-variants.{Known, Route, Unknown}
 use Rattle.frame_kinds.specs.Kinds.{layoutIn}
-use Rattle.frame_kinds.proofs.Table.{sound, sound-route}
+use Rattle.frame_kinds.proofs.Table.{sound, sound-route, ends-in}
 use Rattle.frame_kinds.proofs.Stored.{header-few}
 use Rattle.frame_reader.specs.Faults.{lastOf}
 use Rattle.frame_reader.specs.Parts.{layoutFor, HeaderRow, rowBy, spot, spots, placesBy}
@@ -61,20 +62,7 @@ call-accept-ground h =
 
 -- LV is the header's last four bits
 lv-last : (up : Bool) (k : Kind) (h : ℕ) → hasLv (fields (layoutIn up k)) ≡ true → lvIn (fields (layoutIn up k)) (unpack (widths (fields (layoutIn up k))) h) ≡ h % 16
-lv-last up Data h e = ap (λ (x : ℕ). x % 16) (div-one h)
-lv-last up ClearRequest h e = ap (λ (x : ℕ). x % 16) (div-one h)
-lv-last up ClearConfirmation h e = absurd (true≢false (sym e))
-lv-last true CallRequest h e = ap (λ (x : ℕ). x % 16) (div-one h)
-lv-last false CallRequest h e = ap (λ (x : ℕ). x % 16) (div-one h)
-lv-last true CallAccept h e = ap (λ (x : ℕ). x % 16) (div-one h)
-lv-last false CallAccept h e = ap (λ (x : ℕ). x % 16) (div-one h)
-lv-last up ReceiveReady h e = absurd (true≢false (sym e))
-lv-last up ReceiveNotReady h e = absurd (true≢false (sym e))
-lv-last up Reject h e = absurd (true≢false (sym e))
-lv-last up Interrupt h e = ap (λ (x : ℕ). x % 16) (div-one h)
-lv-last up InterruptConfirmation h e = absurd (true≢false (sym e))
-lv-last up Reset h e = absurd (true≢false (sym e))
-lv-last up ResetConfirmation h e = absurd (true≢false (sym e))
+lv-last up k h e = lv-ends (fields (layoutIn up k)) h (ends-in up k e)
 
 -- a layout in whose headers LV, and the bit that tells of a second string, are where the code looks
 -- for them, and which is short enough

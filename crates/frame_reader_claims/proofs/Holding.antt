@@ -1,21 +1,23 @@
 -- What the laws of wrong bytes ask of a layout, and that the layouts of all kinds have it; and the
 -- byte of LV: a header with LV has it in its last byte, and in no other.
 -- Assumes nothing.
-use mathlib.Core.Path.{_≡_, refl, sym, _∙_, subst}
+use mathlib.Core.Path.{_≡_, refl, sym, ap, _∙_, subst}
 use mathlib.Core.Bool.{Bool, true, false, true≢false}
 use mathlib.Core.List.{List, [], _∷_}
-use Prim.Native.Nat.{ℕ, _+_, _-_, _/_, _≤_}
+use Prim.Native.Nat.{ℕ, _+_, _-_, _*_, _/_, _≤_}
 use native.Mathlib.Omega.{arith}
-use borrow.Author.Tests.{not-true}
-use Rattle.frame_fields.specs.Layouts.{Field, fixed, free, lv, Layout, fields, hasLv}
+use borrow.Author.Tests.{eqb-true, not-true}
+use Rattle.frame_fields.specs.Rows.{total}
+use Rattle.frame_fields.specs.Layouts.{Field, fixed, free, lv, Layout, fields, widths, hasLv}
 use Rattle.frame_fields.proofs.Headers.{oneLv}
+use Rattle.frame_fields.proofs.Ends.{endsInLv}
+use Rattle.frame_fields.proofs.Masks.{eights-total}
 use Rattle.frame_fields.proofs.Tags.{Sound}
 use Rattle.frame_form.specs.declared.Form.{Form}
 use Rattle.frame_form.specs.Forms.{isUplink}
 use Rattle.frame_kinds.specs.declared.Kind.{Kind}
-use Rattle.frame_kinds.specs.declared.Kind.the-variants.{Data, ClearRequest, ClearConfirmation, CallRequest, CallAccept, ReceiveReady, ReceiveNotReady, Reject, Interrupt, InterruptConfirmation, Reset, ResetConfirmation}
-use Rattle.frame_kinds.specs.Kinds.{layoutIn, layoutOf, routeLayout}
-use Rattle.frame_kinds.proofs.Table.{sound, sound-route}
+use Rattle.frame_kinds.specs.Kinds.{layoutOf, routeLayout}
+use Rattle.frame_kinds.proofs.Table.{sound, sound-route, ends-in}
 use Rattle.frame_kinds.proofs.Stored.{header-few}
 use Rattle.frame_reader_claims.specs.Wrong.{widthOf, HoldsLv}
 use Rattle.frame_reader_claims.specs.Wrong.HoldsLv.{here, there}
@@ -79,25 +81,27 @@ lv-no-strings l laid i h = go (l .strings) refl
     go true e = absurd (true≢false (sym (holds-has (fields l) 0 i h) ∙ laid .strings-alone e))
     go false e = refl
 
--- by computation, a line a kind
-last-in : (up : Bool) (k : Kind) → hasLv (fields (layoutIn up k)) ≡ true → lvByte (fields (layoutIn up k)) 0 ≡ layoutIn up k .size - 1
-last-in up Data h = refl
-last-in up ClearRequest h = refl
-last-in up ClearConfirmation h = absurd (true≢false (sym h))
-last-in true CallRequest h = refl
-last-in false CallRequest h = refl
-last-in true CallAccept h = refl
-last-in false CallAccept h = refl
-last-in up ReceiveReady h = absurd (true≢false (sym h))
-last-in up ReceiveNotReady h = absurd (true≢false (sym h))
-last-in up Reject h = absurd (true≢false (sym h))
-last-in up Interrupt h = refl
-last-in up InterruptConfirmation h = absurd (true≢false (sym h))
-last-in up Reset h = absurd (true≢false (sym h))
-last-in up ResetConfirmation h = absurd (true≢false (sym h))
+-- LV as the last field is in the header's last byte
+ends-byte : (fs : List Field) (bit : ℕ) → endsInLv fs ≡ true → lvByte fs bit ≡ (bit + total (widths fs) - 4) / 8
+ends-byte [] bit e = absurd (true≢false (sym e))
+ends-byte (fixed w v ∷ fs) bit e =
+    let sum : bit + w + total (widths fs) ≡ bit + (w + total (widths fs)) = omega arith in
+    ends-byte fs (bit + w) e ∙ ap (λ (x : ℕ). (x - 4) / 8) sum
+ends-byte (free w ∷ fs) bit e =
+    let sum : bit + w + total (widths fs) ≡ bit + (w + total (widths fs)) = omega arith in
+    ends-byte fs (bit + w) e ∙ ap (λ (x : ℕ). (x - 4) / 8) sum
+ends-byte (lv w ∷ []) bit e =
+    let four : w ≡ 4 = eqb-true w 4 e in
+    omega (arith, four)
+ends-byte (lv w ∷ f ∷ fs) bit e = absurd (true≢false (sym e))
+
+last-in : (l : Layout) → Sound 15 l → endsInLv (fields l) ≡ true → lvByte (fields l) 0 ≡ l .size - 1
+last-in l s e =
+    let all : total (widths (fields l)) ≡ 8 * l .size = s .bits ∙ eights-total (l .size) in
+    ends-byte (fields l) 0 e ∙ omega (arith, all, s .bytes)
 
 pub laid-kind : (form : Form) (k : Kind) → Laid (layoutOf form k)
-laid-kind form k = record { sound-is = sound form k; few = header-few k; last-byte = last-in (isUplink form) k; strings-alone = λ e. absurd (true≢false (sym e)) }
+laid-kind form k = record { sound-is = sound form k; few = header-few k; last-byte = λ e. last-in (layoutOf form k) (sound form k) (ends-in (isUplink form) k e); strings-alone = λ e. absurd (true≢false (sym e)) }
 
 pub laid-route : Laid routeLayout
 laid-route = record { sound-is = sound-route; few = omega arith; last-byte = λ e. absurd (true≢false (sym e)); strings-alone = λ e. refl }

@@ -8,45 +8,6 @@ use Rattle.frame_kinds.proofs.Stored.{number-back, route-back}
 use Rattle.frame_kinds.proofs.kind_at.Statement.{statement}
 use Rattle.frame_kinds.proofs.kind_at.Tie as tie
 
-returns : tie.Need-returns
-returns c = sym (ap kindAt (c .if1 .taken) ∙ number-back Data)
-
-returns-2 : tie.Need-returns-2
-returns-2 c = sym (ap kindAt (c .if2 .taken) ∙ number-back ClearRequest)
-
-returns-3 : tie.Need-returns-3
-returns-3 c = sym (ap kindAt (c .if3 .taken) ∙ number-back ClearConfirmation)
-
-returns-4 : tie.Need-returns-4
-returns-4 c = sym (ap kindAt (c .if4 .taken) ∙ number-back CallRequest)
-
-returns-5 : tie.Need-returns-5
-returns-5 c = sym (ap kindAt (c .if5 .taken) ∙ number-back CallAccept)
-
-returns-6 : tie.Need-returns-6
-returns-6 c = sym (ap kindAt (c .if6 .taken) ∙ number-back ReceiveReady)
-
-returns-7 : tie.Need-returns-7
-returns-7 c = sym (ap kindAt (c .if7 .taken) ∙ number-back ReceiveNotReady)
-
-returns-8 : tie.Need-returns-8
-returns-8 c = sym (ap kindAt (c .if8 .taken) ∙ number-back Reject)
-
-returns-9 : tie.Need-returns-9
-returns-9 c = sym (ap kindAt (c .if9 .taken) ∙ number-back Interrupt)
-
-returns-10 : tie.Need-returns-10
-returns-10 c = sym (ap kindAt (c .if10 .taken) ∙ number-back InterruptConfirmation)
-
-returns-11 : tie.Need-returns-11
-returns-11 c = sym (ap kindAt (c .if11 .taken) ∙ number-back Reset)
-
-returns-12 : tie.Need-returns-12
-returns-12 c = sym (ap kindAt (c .if12 .taken) ∙ number-back ResetConfirmation)
-
-returns-13 : tie.Need-returns-13
-returns-13 c = sym (ap kindAt (c .if13 .taken) ∙ route-back)
-
 returns-14 : tie.Need-returns-14
 unfolding kindAt
 returns-14 c = simp (
@@ -68,4 +29,18 @@ returns-14 c = simp (
 pub kind-at-spec : {M : Type 1} → statement M
 kind-at-spec =
     tie.close
-    (tie.spec returns returns-2 returns-3 returns-4 returns-5 returns-6 returns-7 returns-8 returns-9 returns-10 returns-11 returns-12 returns-13 returns-14)
+    (tie.spec
+    (λ c. sym (ap kindAt (c .if1 .taken) ∙ number-back Data))
+    (λ c. sym (ap kindAt (c .if2 .taken) ∙ number-back ClearRequest))
+    (λ c. sym (ap kindAt (c .if3 .taken) ∙ number-back ClearConfirmation))
+    (λ c. sym (ap kindAt (c .if4 .taken) ∙ number-back CallRequest))
+    (λ c. sym (ap kindAt (c .if5 .taken) ∙ number-back CallAccept))
+    (λ c. sym (ap kindAt (c .if6 .taken) ∙ number-back ReceiveReady))
+    (λ c. sym (ap kindAt (c .if7 .taken) ∙ number-back ReceiveNotReady))
+    (λ c. sym (ap kindAt (c .if8 .taken) ∙ number-back Reject))
+    (λ c. sym (ap kindAt (c .if9 .taken) ∙ number-back Interrupt))
+    (λ c. sym (ap kindAt (c .if10 .taken) ∙ number-back InterruptConfirmation))
+    (λ c. sym (ap kindAt (c .if11 .taken) ∙ number-back Reset))
+    (λ c. sym (ap kindAt (c .if12 .taken) ∙ number-back ResetConfirmation))
+    (λ c. sym (ap kindAt (c .if13 .taken) ∙ route-back))
+    returns-14)

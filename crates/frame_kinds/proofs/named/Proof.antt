@@ -5,7 +5,8 @@ use native.Mathlib.Omega.{arith}
 use borrow.Author.Needs.{needs}
 use Rattle.frame_kinds.specs.declared.Kind.the-variants.{Data}
 use Rattle.frame_kinds.specs.Kinds.{kinds}
-use Rattle.frame_kinds.proofs.Table.{in-table, found}
+use Rattle.frame_kinds.proofs.Every.{in-table}
+use Rattle.frame_kinds.proofs.Table.{found}
 use Rattle.frame_kinds.proofs.named.Statement.{statement}
 use Rattle.frame_kinds.proofs.named.Tie as tie
 

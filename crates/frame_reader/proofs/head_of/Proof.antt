@@ -15,18 +15,6 @@ by-kind : (s : tie.Start) {j k : Kind} → j ≡ k
     → headBy (s .args .segment) (rowBy (layoutOf (formAt (s .args .form)) j)) (s .args .f .now) ≡ headBy (s .args .segment) (rowBy (layoutOf (formAt (s .args .form)) k)) (s .args .f .now)
 by-kind s e = ap (λ (x : Kind). headBy (s .args .segment) (rowBy (layoutOf (formAt (s .args .form)) x)) (s .args .f .now)) e
 
-returns : tie.Need-returns
-unfolding rowBy
-returns c = c .head-by .ensures ∙ by-kind (c .before .before .before .before) (sym (c .before .enum-told .given .1))
-
-returns-2 : tie.Need-returns-2
-unfolding rowBy
-returns-2 c = c .head-by2 .ensures ∙ by-kind (c .before .before .before .before) (sym (c .before .enum-told2 .given .1))
-
-returns-3 : tie.Need-returns-3
-unfolding rowBy
-returns-3 c = c .head-by3 .ensures ∙ by-kind (c .before .before .before .before) (sym (c .before .enum-told3 .given .1))
-
 returns-4 : tie.Need-returns-4
 returns-4 c =
     let s = c .before .before .before .before in
@@ -37,35 +25,8 @@ returns-5 c =
     let s = c .before .before .before .before in
     c .head-of-call2 .ensures ∙ ap (λ (r : HeaderRow). headBy (s .args .segment) r (s .args .f .now)) (call-accept-row (isUplink (formAt (s .args .form)))) ∙ by-kind s (sym (c .before .enum-told5 .given .1))
 
-returns-6 : tie.Need-returns-6
-unfolding rowBy
-returns-6 c = c .head-by4 .ensures ∙ by-kind (c .before .before .before .before) (sym (c .before .enum-told6 .given .1))
-
-returns-7 : tie.Need-returns-7
-unfolding rowBy
-returns-7 c = c .head-by5 .ensures ∙ by-kind (c .before .before .before .before) (sym (c .before .enum-told7 .given .1))
-
-returns-8 : tie.Need-returns-8
-unfolding rowBy
-returns-8 c = c .head-by6 .ensures ∙ by-kind (c .before .before .before .before) (sym (c .before .enum-told8 .given .1))
-
-returns-9 : tie.Need-returns-9
-unfolding rowBy
-returns-9 c = c .head-by7 .ensures ∙ by-kind (c .before .before .before .before) (sym (c .before .enum-told9 .given .1))
-
-returns-10 : tie.Need-returns-10
-unfolding rowBy
-returns-10 c = c .head-by8 .ensures ∙ by-kind (c .before .before .before .before) (sym (c .before .enum-told10 .given .1))
-
-returns-11 : tie.Need-returns-11
-unfolding rowBy
-returns-11 c = c .head-by9 .ensures ∙ by-kind (c .before .before .before .before) (sym (c .before .enum-told11 .given .1))
-
-returns-12 : tie.Need-returns-12
-unfolding rowBy
-returns-12 c = c .head-by10 .ensures ∙ by-kind (c .before .before .before .before) (sym (c .before .enum-told12 .given .1))
-
 pub head-of-spec : {M : Type 1} → statement M
+unfolding rowBy
 head-of-spec =
     tie.close
     (tie.spec
@@ -74,5 +35,16 @@ head-of-spec =
     (λ c κs. search needs) (λ c. search needs) (λ c κs. search needs) (λ c. search needs)
     (λ c κs. search needs) (λ c. search needs) (λ c κs. search needs) (λ c. search needs)
     (λ c κs. search needs) (λ c. search needs) (λ c κs. search needs) (λ c. search needs)
-    (λ c κs. search needs) (λ c. search needs) (λ c κs. search needs) returns returns-2 returns-3 returns-4
-    returns-5 returns-6 returns-7 returns-8 returns-9 returns-10 returns-11 returns-12)
+    (λ c κs. search needs) (λ c. search needs) (λ c κs. search needs)
+    (λ c. c .head-by .ensures ∙ by-kind (c .before .before .before .before) (sym (c .before .enum-told .given .1)))
+    (λ c. c .head-by2 .ensures ∙ by-kind (c .before .before .before .before) (sym (c .before .enum-told2 .given .1)))
+    (λ c. c .head-by3 .ensures ∙ by-kind (c .before .before .before .before) (sym (c .before .enum-told3 .given .1)))
+    returns-4
+    returns-5
+    (λ c. c .head-by4 .ensures ∙ by-kind (c .before .before .before .before) (sym (c .before .enum-told6 .given .1)))
+    (λ c. c .head-by5 .ensures ∙ by-kind (c .before .before .before .before) (sym (c .before .enum-told7 .given .1)))
+    (λ c. c .head-by6 .ensures ∙ by-kind (c .before .before .before .before) (sym (c .before .enum-told8 .given .1)))
+    (λ c. c .head-by7 .ensures ∙ by-kind (c .before .before .before .before) (sym (c .before .enum-told9 .given .1)))
+    (λ c. c .head-by8 .ensures ∙ by-kind (c .before .before .before .before) (sym (c .before .enum-told10 .given .1)))
+    (λ c. c .head-by9 .ensures ∙ by-kind (c .before .before .before .before) (sym (c .before .enum-told11 .given .1)))
+    (λ c. c .head-by10 .ensures ∙ by-kind (c .before .before .before .before) (sym (c .before .enum-told12 .given .1))))

@@ -24,15 +24,6 @@ held s up k {m = m} told way row same =
     let a = s .args in
     subst (λ (x : Kind). Heading (formAt (a .form)) x (a .p .now) (a .u) m) (sym told) (heading up k (a .p .now) (s .pre) (a .u) m _ _ _ _ _ row same (formAt (a .form)) way)
 
-returns : tie.Need-returns
-returns c = held (c .before .before .before .before) _ Data (c .before .enum-told .given .1) refl (c .row .ensures) refl
-
-returns-2 : tie.Need-returns-2
-returns-2 c = held (c .before .before .before .before) _ ClearRequest (c .before .enum-told2 .given .1) refl (c .row2 .ensures) refl
-
-returns-3 : tie.Need-returns-3
-returns-3 c = held (c .before .before .before .before) _ ClearConfirmation (c .before .enum-told3 .given .1) refl (c .row3 .ensures) refl
-
 returns-4 : tie.Need-returns-4
 returns-4 c =
     let way = c .before .before in
@@ -53,27 +44,6 @@ returns-7 c =
     let way = c .before .before in
     held (way .before .before .before .before) false CallAccept (way .before .enum-told5 .given .1) (sym (way .is-uplink-at2 .ensures) ∙ c .before .if2 .left) (c .row7 .ensures) refl
 
-returns-8 : tie.Need-returns-8
-returns-8 c = held (c .before .before .before .before) _ ReceiveReady (c .before .enum-told6 .given .1) refl (c .row8 .ensures) refl
-
-returns-9 : tie.Need-returns-9
-returns-9 c = held (c .before .before .before .before) _ ReceiveNotReady (c .before .enum-told7 .given .1) refl (c .row9 .ensures) refl
-
-returns-10 : tie.Need-returns-10
-returns-10 c = held (c .before .before .before .before) _ Reject (c .before .enum-told8 .given .1) refl (c .row10 .ensures) refl
-
-returns-11 : tie.Need-returns-11
-returns-11 c = held (c .before .before .before .before) _ Interrupt (c .before .enum-told9 .given .1) refl (c .row11 .ensures) refl
-
-returns-12 : tie.Need-returns-12
-returns-12 c = held (c .before .before .before .before) _ InterruptConfirmation (c .before .enum-told10 .given .1) refl (c .row12 .ensures) refl
-
-returns-13 : tie.Need-returns-13
-returns-13 c = held (c .before .before .before .before) _ Reset (c .before .enum-told11 .given .1) refl (c .row13 .ensures) refl
-
-returns-14 : tie.Need-returns-14
-returns-14 c = held (c .before .before .before .before) _ ResetConfirmation (c .before .enum-told12 .given .1) refl (c .row14 .ensures) refl
-
 pub header-of-spec : {M : Type 1} → statement M
 header-of-spec =
     tie.close
@@ -90,4 +60,15 @@ header-of-spec =
     (λ c. search needs) (λ c κs. search needs)
     (λ c. search needs) (λ c κs. search needs)
     (λ c. search needs) (λ c κs. search needs)
-    returns returns-2 returns-3 returns-4 returns-5 returns-6 returns-7 returns-8 returns-9 returns-10 returns-11 returns-12 returns-13 returns-14)
+    (λ c. held (c .before .before .before .before) _ Data (c .before .enum-told .given .1) refl (c .row .ensures) refl)
+    (λ c. held (c .before .before .before .before) _ ClearRequest (c .before .enum-told2 .given .1) refl (c .row2 .ensures) refl)
+    (λ c. held (c .before .before .before .before) _ ClearConfirmation (c .before .enum-told3 .given .1) refl (c .row3 .ensures) refl)
+    returns-4 returns-5
+    returns-6 returns-7
+    (λ c. held (c .before .before .before .before) _ ReceiveReady (c .before .enum-told6 .given .1) refl (c .row8 .ensures) refl)
+    (λ c. held (c .before .before .before .before) _ ReceiveNotReady (c .before .enum-told7 .given .1) refl (c .row9 .ensures) refl)
+    (λ c. held (c .before .before .before .before) _ Reject (c .before .enum-told8 .given .1) refl (c .row10 .ensures) refl)
+    (λ c. held (c .before .before .before .before) _ Interrupt (c .before .enum-told9 .given .1) refl (c .row11 .ensures) refl)
+    (λ c. held (c .before .before .before .before) _ InterruptConfirmation (c .before .enum-told10 .given .1) refl (c .row12 .ensures) refl)
+    (λ c. held (c .before .before .before .before) _ Reset (c .before .enum-told11 .given .1) refl (c .row13 .ensures) refl)
+    (λ c. held (c .before .before .before .before) _ ResetConfirmation (c .before .enum-told12 .given .1) refl (c .row14 .ensures) refl))
