@@ -663,8 +663,8 @@ pub fn read_data(form: Form, frame: &[u8]) -> DataRead
     DataRead::Refused(why, frame_reader::fault(number, frame))
 }
 
-// The user data of a frame, as a part of it. `place` is what reading answered; for another place,
-// the part ends at the frame's end.
+// The user data of a frame, or the table or the optional data of a ROUTE, as a part of the frame.
+// `place` is what reading answered; for another place, the part ends at the frame's end.
 pub fn user_data(frame: &[u8], place: UserData) -> &[u8]
     ensures { λ r. ⌜ now r ≡ partOf (now (frame .entry)) place ⌝ }
 {
