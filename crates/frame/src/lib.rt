@@ -148,8 +148,8 @@ pub enum Packet {
     ResetConfirmation(Confirmation),
 }
 
-// The same to a caller who asks for DATA alone: the packet and where the user data is; that the frame
-// contains another packet; or the refusal and its position.
+// The same to a caller who asks for DATA alone: the packet and where the user data is; that the
+// frame contains another packet; or the refusal and its position.
 pub enum DataRead {
     Data(Data, UserData),
     Other,
@@ -613,6 +613,7 @@ fn read_at(ten: &[u8], user: UserData) -> Read
     requires { ⌜ length (now ten) ≡ 10 ⌝ }
     ensures { λ r. ⌜ r ≡ readAt (now (ten .entry)) user ⌝ }
 {
+    // the number of ROUTE
     if ten[0] == 12 {
         return Read::Route(route_of(&ten[1..], user.len));
     }
@@ -645,8 +646,8 @@ pub fn read_frame(form: Form, frame: &[u8]) -> Read
     }
 }
 
-// Reads a frame for its DATA: what `read_frame` answers, without a packet of another kind being made.
-// Joining reads frame after frame so.
+// Reads a frame for its DATA: what `read_frame` answers, but no packet of another kind is made.
+// For `message`, which joins DATA only; other callers use `read_frame`.
 pub fn read_data(form: Form, frame: &[u8]) -> DataRead
     ensures { λ r. ⌜ r ≡ dataReadOf (readOf form (now (frame .entry))) ⌝ }
 {

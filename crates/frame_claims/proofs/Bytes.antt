@@ -2,14 +2,14 @@
 -- came from a packet that was written or read, and ten bytes are one packet.
 -- Assumes nothing.
 use mathlib.Core.Path.{_≡_, refl, sym, ap, ap₂, _∙_, subst}
-use mathlib.Core.Bool.{Bool, true, false, cond}
+use mathlib.Core.Bool.{Bool, true, false, cond, true≢false}
 use mathlib.Core.List.{List}
 use Prim.Native.Nat.{ℕ, _+_, _*_, _/_, _%_, _<_, _≤_}
 use native.Mathlib.Omega.{arith}
 use lib.Dec.{leb, eqb}
 use lib.ListN.{length, getD, take, drop}
 use lib.Seq.{take-at}
-use borrow.Author.Tests.{leb-true, eqb-true}
+use borrow.Author.Tests.{leb-true, eqb-true, eq-eqb}
 use Rattle.refusal.specs.declared.Refusal.the-variants.{OutOfRange, OutputTooShort}
 use Rattle.refusal.specs.declared.Verdict.{Verdict}
 use Rattle.refusal.specs.declared.Verdict.the-variants.{Done, Refused}
@@ -25,8 +25,10 @@ use Rattle.frame_form.proofs.Forms.{long-at, most-range}
 use Rattle.frame_kinds.specs.declared.Kind.{Kind}
 use Rattle.frame_kinds.specs.declared.Found.{Found}
 use Rattle.frame_kinds.specs.declared.Found.the-variants.{Known, Route, Unknown}
-use Rattle.frame_kinds.specs.Kinds.{sizeOf, layoutOf, kindAt, valueCount, tenOf, tenBytes}
+use Rattle.frame_kinds.specs.Kinds.{sizeOf, layoutOf, kindNumber, routeNumber, kindAt, valueCount, tenOf, tenBytes}
+use Rattle.frame_kinds.proofs.Stored.{not-route}
 use Rattle.frame_reader.specs.Reading.{foundIn, lengthIn, headerLength, userLength, valuesAs, readChecks, readAnswerBy, readAnswer, readBytes}
+use Rattle.frame_reader.specs.Parts.{foundNumber}
 use Rattle.frame_reader.proofs.Cases.{passed-answer, passed-bytes}
 use Rattle.frame_writer.specs.Writing.{packetSize, frameBy, writeVerdict, outputBy, answerBy, placesFit, writeAnswerBy, writeAnswer, writeBytes}
 use Rattle.frame_writer.proofs.Answers.{ten-answer, ten-bytes}
@@ -141,6 +143,19 @@ module _ (form : ℕ) (bytes : List ℕ) (user room : ℕ) where
 
 -- ---- a call of `read` whose answer is done
 
+by-room : (b : Bool) (n : ℕ) → cond b (256 * n) (numberOf OutputTooShort) % 256 ≡ 0 → b ≡ true
+by-room true n h = refl
+by-room false n h = absurd (omega arith)
+
+by-checks : (c : Checked) (start user places : ℕ) → readAnswerBy c start user places % 256 ≡ 0 → (c ≡ passed) × (10 ≤ places)
+by-checks passed start user places h = (refl, leb-true 10 places (by-room (leb 10 places) (start + 256 * user) h))
+by-checks (refusedAt why at) start user places h = absurd (omega (arith, number-range why))
+
+-- the frame passed the checks, and there were ten places
+pub read-done : (form : ℕ) (frame : List ℕ) (places : ℕ) → readAnswer form frame places % 256 ≡ 0 → (readChecks (formAt form) frame ≡ passed) × (10 ≤ places)
+unfolding readAnswer
+read-done form frame places h = by-checks (readChecks (formAt form) frame) (headerLength (foundIn frame)) (userLength (foundIn frame) (formAt form) frame) places h
+
 -- the packet that it read
 record WasRead (form : ℕ) (frame : List ℕ) (places : ℕ) : Type 0 where
   p : Packet
@@ -148,29 +163,45 @@ record WasRead (form : ℕ) (frame : List ℕ) (places : ℕ) : Type 0 where
   reads : readOf (formAt form) frame ≡ PacketRead p place
   room : 10 ≤ places
 
-module _ (form : ℕ) (frame : List ℕ) (places : ℕ) (none : NoRoute frame) where
-  by-room : (k : Kind) (b : Bool) → leb 10 places ≡ b → readChecks (formAt form) frame ≡ passed → foundIn frame ≡ Known k → (n : ℕ)
-      → cond b (256 * n) (numberOf OutputTooShort) % 256 ≡ 0 → WasRead form frame places
+module _ (form : ℕ) (frame places : List ℕ) (h : readAnswer form frame (length places) % 256 ≡ 0) where
+  abbrev first : ℕ
+  first = getD (readBytes form frame places) 0 0
+
+  -- the first of the ten bytes is the number of what was found
+  first-is : (f : Found) → foundIn frame ≡ f → first ≡ foundNumber f
+  unfolding tenOf
+  first-is (Known k) ef =
+      let d = read-done form frame (length places) h in
+      ap (λ (l : List ℕ). getD l 0 0) (passed-bytes form frame (d .0) (Known k) places ef (d .1))
+  first-is Route ef =
+      let d = read-done form frame (length places) h in
+      ap (λ (l : List ℕ). getD l 0 0) (passed-bytes form frame (d .0) Route places ef (d .1))
+  first-is Unknown ef = absurd (never-unknown (formAt form) frame (read-done form frame (length places) h .0) ef)
+
+  pub route-read : first ≡ routeNumber → foundIn frame ≡ Route
+  route-read e = go (foundIn frame) refl
+    where
+      go : (f : Found) → foundIn frame ≡ f → f ≡ Route
+      go (Known k) ef = absurd (true≢false (sym (eq-eqb (kindNumber k) routeNumber (sym (first-is (Known k) ef) ∙ e)) ∙ not-route k))
+      go Route ef = refl
+      go Unknown ef = absurd (never-unknown (formAt form) frame (read-done form frame (length places) h .0) ef)
+
+  was-read : NoRoute (readBytes form frame places) → WasRead form frame (length places)
   unfolding readOf
-  by-room k true b e ef n h = record {
-    p = packetOf k (valuesAs (Known k) (formAt form) frame);
-    place = record { at = sizeOf k; len = userLength (Known k) (formAt form) frame };
-    reads = ap₂ (λ (c : Checked) (f : Found). readBy c f (formAt form) frame) e ef;
-    room = leb-true 10 places b;
-  }
-  by-room k false b e ef n h = absurd (omega arith)
+  was-read none = go (foundIn frame) refl
+    where
+      d : (readChecks (formAt form) frame ≡ passed) × (10 ≤ length places)
+      d = read-done form frame (length places) h
 
-  by-checks : (c : Checked) (f : Found) → readChecks (formAt form) frame ≡ c → foundIn frame ≡ f
-      → readAnswerBy c (headerLength (foundIn frame)) (userLength (foundIn frame) (formAt form) frame) places % 256 ≡ 0 → WasRead form frame places
-  by-checks passed (Known k) e ef h =
-      by-room k (leb 10 places) refl e ef (headerLength (foundIn frame) + 256 * userLength (foundIn frame) (formAt form) frame) h
-  by-checks passed Route e ef h = absurd (none ef)
-  by-checks passed Unknown e ef h = absurd (never-unknown (formAt form) frame e ef)
-  by-checks (refusedAt why at) f e ef h = absurd (omega (arith, number-range why))
-
-  was-read : readAnswer form frame places % 256 ≡ 0 → WasRead form frame places
-  unfolding readAnswer
-  was-read h = by-checks (readChecks (formAt form) frame) (foundIn frame) refl refl h
+      go : (f : Found) → foundIn frame ≡ f → WasRead form frame (length places)
+      go (Known k) ef = record {
+        p = packetOf k (valuesAs (Known k) (formAt form) frame);
+        place = record { at = sizeOf k; len = userLength (Known k) (formAt form) frame };
+        reads = ap₂ (λ (c : Checked) (f : Found). readBy c f (formAt form) frame) (d .0) ef;
+        room = d .1;
+      }
+      go Route ef = absurd (none (first-is Route ef))
+      go Unknown ef = absurd (never-unknown (formAt form) frame (d .0) ef)
 
 -- what the call gives for a frame that reads, if there are ten places
 module _ (form : ℕ) (frame places : List ℕ) (room : 10 ≤ length places) where
@@ -253,10 +284,10 @@ module _ (form : ℕ) (frame places : List ℕ) (r : WasRead form frame (length 
       named (readAnswer form frame (length places)) frame (r .place) (done-read form frame places (r .room) (r .p) (r .place) (r .reads) .0)
       (omega (arith, read-few (formAt form) frame (r .p) (r .place) (r .reads)))
 
-read-is-written : (form : ℕ) (frame places out : List ℕ) → 1 ≤ form → AreBytes frame → NoRoute frame → readAnswer form frame (length places) % 256 ≡ 0
-    → length frame ≤ length out → BytesWritten form frame places out
-read-is-written form frame places out long bytes none h room =
-    let r = was-read form frame (length places) none h in
+read-is-written : (form : ℕ) (frame places out : List ℕ) → 1 ≤ form → AreBytes frame → readAnswer form frame (length places) % 256 ≡ 0
+    → NoRoute (readBytes form frame places) → length frame ≤ length out → BytesWritten form frame places out
+read-is-written form frame places out long bytes h none room =
+    let r = was-read form frame places h none in
     let back = read-back .read-is-written (formAt form) frame (r .p) (r .place) out (long-at form long) bytes (r .reads) room in
     let ten = ten-read form frame places r in
     let user = user-read form frame places r in
@@ -272,9 +303,10 @@ read-is-written form frame places out long bytes none h room =
 
 -- ---- by the layout
 
-read-is-frame : (form : ℕ) (frame places : List ℕ) → AreBytes frame → NoRoute frame → readAnswer form frame (length places) % 256 ≡ 0 → BytesAreFrame form frame places
-read-is-frame form frame places bytes none h =
-    let r = was-read form frame (length places) none h in
+read-is-frame : (form : ℕ) (frame places : List ℕ) → AreBytes frame → readAnswer form frame (length places) % 256 ≡ 0
+    → NoRoute (readBytes form frame places) → BytesAreFrame form frame places
+read-is-frame form frame places bytes h none =
+    let r = was-read form frame places h none in
     record {
       packet = r .p;
       ten = ten-read form frame places r;

@@ -7,15 +7,13 @@ use mathlib.Core.List.{List, [], _∷_}
 use mathlib.Core.Logic.{_≢_}
 use Prim.Native.Nat.{ℕ, _+_, _-_, _*_, _/_, _%_, _<_, _≤_}
 use native.Mathlib.Omega.{arith}
-use lib.Dec.{leb, eqb}
-use lib.ListN.{length, take, drop}
+use lib.Dec.{eqb}
+use lib.ListN.{length, getD, take, drop}
 use lib.Seq.{take-at}
-use borrow.Author.Tests.{leb-true, lt-leb}
-use Rattle.refusal.specs.declared.Refusal.the-variants.{PacketTooLong, OutputTooShort}
+use borrow.Author.Tests.{lt-leb}
+use Rattle.refusal.specs.declared.Refusal.the-variants.{PacketTooLong}
 use Rattle.refusal.specs.declared.Verdict.{Verdict}
 use Rattle.refusal.specs.declared.Verdict.the-variants.{Done, Refused}
-use Rattle.refusal.specs.Numbers.{numberOf}
-use Rattle.refusal.specs.Positions.{Checked, passed, refusedAt}
 use Rattle.refusal.proofs.Numbers.{number-range}
 use Rattle.lists.specs.Lists.{over}
 use Rattle.little.specs.Little.{flag}
@@ -28,7 +26,7 @@ use Rattle.frame_form.proofs.Forms.{long-at, most-range}
 use Rattle.frame_kinds.specs.declared.Found.the-variants.{Route as RouteFound}
 use Rattle.frame_kinds.specs.Kinds.{routeLayout, routeNumber, tenOf}
 use Rattle.frame_reader.specs.Faults.{packetLength}
-use Rattle.frame_reader.specs.Reading.{foundIn, headerLength, userLength, readChecks, readAnswerBy, readAnswer, readBytes}
+use Rattle.frame_reader.specs.Reading.{readAnswer, readBytes}
 use Rattle.frame_reader.proofs.Cases.{passed-answer, passed-bytes}
 use Rattle.frame_writer.specs.Writing.{writeVerdict, outputBy, answerBy}
 use Rattle.frame_writer.specs.Routes.{routeAfter, routeLength, routeFits, routeFrame, routeVerdict, routeAnswer, routeBytes}
@@ -38,6 +36,8 @@ use Rattle.frame.specs.Routes.{routeSaid, writeRouteOf, writeRouteOutput}
 use Rattle.frame.proofs.Contents.{freeIn}
 use Rattle.frame_claims.specs.Bytes.{userNamed}
 use Rattle.frame_claims.specs.Routes.{tableNamed, extraNamed, RouteBytesRead, RouteBytesWritten, RouteReadBackOfBytes, RouteRefusals}
+use Rattle.frame_claims.proofs.Bytes.{read-done, route-read}
+use Rattle.frame_claims.proofs.Stored.{by-verdict}
 use Rattle.frame_claims.proofs.Refusing.{write-by}
 use Rattle.frame_claims.proofs.Short.{by-fit, never-long, number-by}
 use Rattle.frame_claims.proofs.RouteFrames.{flags, fits-flags, table-first, data-second, written, Written, ofIn, inIn, rtlIn, afterIn, tableIn, extraIn, IsRoute, is-route}
@@ -114,19 +114,6 @@ written-is-read form o i table extra out places h room =
 
 -- ---- read, then written
 
--- reading was done: all checks passed, and there were ten places
-by-room : (b : Bool) (n : ℕ) → cond b (256 * n) (numberOf OutputTooShort) % 256 ≡ 0 → b ≡ true
-by-room true n h = refl
-by-room false n h = absurd (omega (arith, h))
-
-by-checks : (c : Checked) (start user places : ℕ) → readAnswerBy c start user places % 256 ≡ 0 → (c ≡ passed) × (10 ≤ places)
-by-checks passed start user places h = (refl, leb-true 10 places (by-room (leb 10 places) (start + 256 * user) h))
-by-checks (refusedAt why at) start user places h = absurd (omega (arith, number-range why))
-
-read-done : (form : ℕ) (frame : List ℕ) (places : ℕ) → readAnswer form frame places % 256 ≡ 0 → (readChecks (formAt form) frame ≡ passed) × (10 ≤ places)
-unfolding readAnswer
-read-done form frame places h = by-checks (readChecks (formAt form) frame) (headerLength (foundIn frame)) (userLength (foundIn frame) (formAt form) frame) places h
-
 -- ten bytes and an answer that name the strings of the frame
 module _ (form : ℕ) (frame places out : List ℕ) (long : isLong (formAt form) ≡ true) (bytes : AreBytes frame) (q : IsRoute (formAt form) frame) (room : length frame ≤ length out) where
   abbrev f : Form
@@ -175,10 +162,11 @@ module _ (form : ℕ) (frame places out : List ℕ) (long : isLong (formAt form)
         bytes = ap₂ (λ (x y : List ℕ). routeBytes form (ofIn frame) (inIn frame) x y out) table-is extra-is ∙ bytes-again;
       }
 
-read-is-written : (form : ℕ) (frame places out : List ℕ) → 1 ≤ form → AreBytes frame → foundIn frame ≡ RouteFound
-    → readAnswer form frame (length places) % 256 ≡ 0 → length frame ≤ length out
+read-is-written : (form : ℕ) (frame places out : List ℕ) → 1 ≤ form → AreBytes frame
+    → readAnswer form frame (length places) % 256 ≡ 0 → getD (readBytes form frame places) 0 0 ≡ routeNumber → length frame ≤ length out
     → RouteBytesWritten form frame (readBytes form frame places) (readAnswer form frame (length places)) out
-read-is-written form frame places out long bytes ef h room =
+read-is-written form frame places out long bytes h first room =
+    let ef = route-read form frame places h first in
     let d = read-done form frame (length places) h in
     let answer = passed-answer form frame (d .0) RouteFound (length places) (packetLength (segOf (formAt form)) routeLayout frame) ef (d .1) refl in
     let ten = passed-bytes form frame (d .0) RouteFound places ef (d .1) in
@@ -191,15 +179,11 @@ route-read-back-of-bytes = record { written-is-read = written-is-read; read-is-w
 
 -- ---- refusals
 
-no-byte : (v : Verdict) (len : ℕ) (frame out : List ℕ) → answerBy v len % 256 ≢ 0 → (outputBy v frame out ≡ out) × (answerBy v len / 256 ≡ 0)
-no-byte Done len frame out h = absurd (h (omega arith))
-no-byte (Refused why) len frame out h = (refl, omega (arith, number-range why))
-
 no-byte-written : (form o i : ℕ) (table extra out : List ℕ) → routeAnswer form o i (length table) (length extra) (length out) % 256 ≢ 0
     → (routeBytes form o i table extra out ≡ out) × (routeAnswer form o i (length table) (length extra) (length out) / 256 ≡ 0)
 unfolding routeAnswer routeBytes
 no-byte-written form o i table extra out h =
-    no-byte (routeVerdict (formAt form) o i (length table) (length extra) (length out)) (frameLength (segOf (formAt form)) (routeLength o (length table) (length extra)))
+    by-verdict (routeVerdict (formAt form) o i (length table) (length extra) (length out)) (frameLength (segOf (formAt form)) (routeLength o (length table) (length extra)))
     (routeFrame (formAt form) o i table extra) out h
 
 -- two strings of over 255 bytes are a packet over every largest one

@@ -110,7 +110,7 @@ round-trips = record { packet-back = packet-back; bytes-back = bytes-back }
 
 -- ---- refused writing
 
-by-verdict : (v : Verdict) (len : ℕ) (frame out : List ℕ) → answerBy v len % 256 ≢ 0 → (outputBy v frame out ≡ out) × (answerBy v len / 256 ≡ 0)
+pub by-verdict : (v : Verdict) (len : ℕ) (frame out : List ℕ) → answerBy v len % 256 ≢ 0 → (outputBy v frame out ≡ out) × (answerBy v len / 256 ≡ 0)
 by-verdict Done len frame out h = absurd (h (omega arith))
 by-verdict (Refused why) len frame out h = (refl, omega (arith, number-alone why))
 

@@ -7,13 +7,14 @@
 -- Assumes nothing.
 use mathlib.Core.Path.{_≡_}
 use mathlib.Core.List.{List}
+use mathlib.Core.Logic.{_≢_}
 use Prim.Native.Nat.{ℕ, _*_, _/_, _%_, _≤_}
-use lib.ListN.{length, take, drop}
+use lib.ListN.{length, getD, take, drop}
 use Rattle.lists.specs.Lists.{over}
 use Rattle.frame_fields.specs.Rows.{AreBytes}
 use Rattle.frame_form.specs.Forms.{formAt}
-use Rattle.frame_kinds.specs.declared.Found.the-variants.{Route}
-use Rattle.frame_reader.specs.Reading.{foundIn, readAnswer, readBytes}
+use Rattle.frame_kinds.specs.Kinds.{routeNumber}
+use Rattle.frame_reader.specs.Reading.{readAnswer, readBytes}
 use Rattle.frame_writer.specs.Writing.{writeAnswer, writeBytes}
 use Rattle.frame.specs.declared.Packet.{Packet}
 use Rattle.frame.specs.Packets.{packetBytes}
@@ -60,18 +61,20 @@ pub record FrameIsBytes (form : ℕ) (p : Packet) (user places : List ℕ) : Typ
   pub packet-back : readBytes form (frameOf (formAt form) p user) places ≡ over (packetBytes p) places
   pub user-back : userNamed (readAnswer form (frameOf (formAt form) p user) (length places)) (frameOf (formAt form) p user) ≡ user
 
--- the frame is not that of a ROUTE, which has strings in the place of user data
+-- the ten bytes are not those of a ROUTE, which has strings in the place of user data: the first is
+-- another number than that of ROUTE
 abbrev pub NoRoute : List ℕ → Type 0
-NoRoute frame = foundIn frame ≡ Route → ⊥
+NoRoute ten = getD ten 0 0 ≢ routeNumber
 
 pub record ReadBackOfBytes : Type 0 where
   -- by the layout, in every form: every frame that `read` accepts; and the frame of every packet
   -- that a frame of the form can hold, if there are ten places to read it into
-  pub read-is-frame : (form : ℕ) (frame places : List ℕ) → AreBytes frame → NoRoute frame → readAnswer form frame (length places) % 256 ≡ 0 → BytesAreFrame form frame places
+  pub read-is-frame : (form : ℕ) (frame places : List ℕ) → AreBytes frame → readAnswer form frame (length places) % 256 ≡ 0
+      → NoRoute (readBytes form frame places) → BytesAreFrame form frame places
   pub frame-is-read : (form : ℕ) (p : Packet) (user places : List ℕ) → CanHold (formAt form) p (length user) → 10 ≤ length places → FrameIsBytes form p user places
   -- every frame that `write` has written, if there are ten places to read it into; and every frame
   -- of a long form that `read` accepts, if the output has room for it
   pub written-is-read : (form : ℕ) (packet user out places : List ℕ) → writeAnswer form packet (length user) (length out) % 256 ≡ 0
       → 10 ≤ length places → BytesRead form packet user out places
-  pub read-is-written : (form : ℕ) (frame places out : List ℕ) → 1 ≤ form → AreBytes frame → NoRoute frame → readAnswer form frame (length places) % 256 ≡ 0
-      → length frame ≤ length out → BytesWritten form frame places out
+  pub read-is-written : (form : ℕ) (frame places out : List ℕ) → 1 ≤ form → AreBytes frame → readAnswer form frame (length places) % 256 ≡ 0
+      → NoRoute (readBytes form frame places) → length frame ≤ length out → BytesWritten form frame places out

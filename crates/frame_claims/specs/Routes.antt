@@ -19,9 +19,8 @@ use Rattle.frame_fields.specs.Rows.{AreBytes}
 use Rattle.frame_form.specs.declared.Form.{Form}
 use Rattle.frame_form.specs.declared.Form.the-variants.{ShortUplink}
 use Rattle.frame_form.specs.Forms.{mostOf, formValid, isLong}
-use Rattle.frame_kinds.specs.declared.Found.the-variants.{Route as RouteFound}
 use Rattle.frame_kinds.specs.Kinds.{routeNumber, tenOf}
-use Rattle.frame_reader.specs.Reading.{foundIn, readAnswer, readBytes}
+use Rattle.frame_reader.specs.Reading.{readAnswer, readBytes}
 use Rattle.frame_writer.specs.Routes.{routeLength, routeFits, routeFrame, routeAnswer, routeBytes}
 use Rattle.frame.specs.declared.Route.{Route}
 use Rattle.frame.specs.declared.Written.the-variants.{Done, Refused}
@@ -123,8 +122,8 @@ pub record RouteReadBackOfBytes : Type 0 where
       → routeAnswer form optional initial (length table) (length extra) (length out) % 256 ≡ 0 → 10 ≤ length places
       → RouteBytesRead form optional initial table extra
       (take (routeAnswer form optional initial (length table) (length extra) (length out) / 256) (routeBytes form optional initial table extra out)) places
-  pub read-is-written : (form : ℕ) (frame places out : List ℕ) → 1 ≤ form → AreBytes frame → foundIn frame ≡ RouteFound
-      → readAnswer form frame (length places) % 256 ≡ 0 → length frame ≤ length out
+  pub read-is-written : (form : ℕ) (frame places out : List ℕ) → 1 ≤ form → AreBytes frame
+      → readAnswer form frame (length places) % 256 ≡ 0 → getD (readBytes form frame places) 0 0 ≡ routeNumber → length frame ≤ length out
       → RouteBytesWritten form frame (readBytes form frame places) (readAnswer form frame (length places)) out
 
 -- ---- refusals

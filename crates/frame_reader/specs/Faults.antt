@@ -35,8 +35,8 @@ hasSecond l frame = eqb (getD (freeValues (fields l) (valuesIn l frame)) 0 0) 1
 abbrev pub stringsEnd : Layout → List ℕ → ℕ
 stringsEnd l frame = cond (hasSecond l frame) (firstEnd l frame + 1 + getD frame (firstEnd l frame) 0) (firstEnd l frame)
 
--- the first length is right: neither its bytes "or the length after them, run past the frame"
--- (document 02, Q-4)
+-- the first length is right: it is not so that its bytes, "or the length after them, run past the
+-- frame" (document 02, Q-4)
 abbrev pub firstRight : Layout → List ℕ → Bool
 firstRight l frame = cond (hasSecond l frame) (ltb (firstEnd l frame) (length frame)) (leb (firstEnd l frame) (length frame))
 

@@ -31,8 +31,8 @@ use Rattle.frame_writer.proofs.Answers.{put-done}
 pub with-data : (o t e : ℕ) → o ≡ 1 → SameOrLong (2 + (t + (1 + e))) (routeLength o t e)
 with-data o t e q = inl (rw (eq-eqb o 1 q))
 
-pub without-data : (o t e : ℕ) → (o ≡ 1 → ⊥) → SameOrLong (2 + (t + 0)) (routeLength o t e)
-without-data o t e q = inl (rw (ne-eqb o 1 q))
+pub without-data : (o t e : ℕ) → (o ≡ 1 → ⊥) → SameOrLong (2 + t) (routeLength o t e)
+without-data o t e q = let n : routeLength o t e ≡ 2 + (t + 0) = rw (ne-eqb o 1 q) in inl (omega (arith, n))
 
 pub table-long : (o t e : ℕ) → 255 < t → SameOrLong 1000 (routeLength o t e)
 table-long o t e h = inr (omega arith, omega arith)
@@ -65,7 +65,7 @@ long-alike form fits r n room (inr p) = go (formValid form) refl
 -- ---- the frame
 
 -- the header as a number
-pub route-header : (o i t : ℕ) → 28672 + 512 * o + 256 * i + t ≡ headerNumber routeLayout 0 (o ∷ i ∷ t ∷ [])
+pub route-header : (o i t : ℕ) → 0x7000 + 512 * o + 256 * i + t ≡ headerNumber routeLayout 0 (o ∷ i ∷ t ∷ [])
 route-header o i t = omega arith
 
 module _ (form o i : ℕ) (table extra out : List ℕ) (fits : Bool) (r : ℕ) (ef : fits ≡ routeFits o i (length extra)) (long : SameOrLong r (routeLength o (length table) (length extra))) where

@@ -331,7 +331,7 @@ fn route_length(optional: u8, table: usize, extra: usize) -> usize
         }
         return 2 + (table + (1 + extra));
     }
-    2 + (table + 0)
+    2 + table
 }
 
 // Writes the length of a string in a byte, and the string.
@@ -392,7 +392,8 @@ pub fn write_route(
     if refusal != 0 {
         return refusal;
     }
-    let header = 28672 + 512 * optional as u64 + 256 * initial as u64 + table.len() as u64;
+    // SP = 3 and ST = 0, then OF, IN and RTL
+    let header = 0x7000 + 512 * optional as u64 + 256 * initial as u64 + table.len() as u64;
     if optional == 1 {
         put_route(out, header, table, extra, pad);
         return 256 * (n + pad) as u64;

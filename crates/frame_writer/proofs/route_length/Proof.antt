@@ -23,4 +23,4 @@ route-length-spec =
     tie.close
     (tie.spec
     returns returns-2 (λ c. search needs) (λ c. search needs) (λ c. search needs) returns-3
-    (λ c. search needs) (λ c. search needs) returns-4)
+    (λ c. search needs) returns-4)

@@ -62,7 +62,7 @@ room c =
 
 -- what is written, in both cases
 whole : (c : tie.Else1) (last : List ℕ) → let a = start (c .before) .args in let pad = c .before .before .padding-of .result in
-    last ≡ (bytesOf 2 (28672 + 512 * a .optional + 256 * a .initial + length (a .table .now)) ++ (routeAfter (a .optional) (a .table .now) (a .extra .now) ++ replicate pad 0))
+    last ≡ (bytesOf 2 (0x7000 + 512 * a .optional + 256 * a .initial + length (a .table .now)) ++ (routeAfter (a .optional) (a .table .now) (a .extra .now) ++ replicate pad 0))
     ++ drop (2 + length (routeAfter (a .optional) (a .table .now) (a .extra .now)) + pad) (a .out .now)
     → (256 * (c .before .before .before .route-length .result + pad) ≡ routeAnswer (a .form) (a .optional) (a .initial) (length (a .table .now)) (length (a .extra .now)) (length (a .out .now)))
     × (last ≡ routeBytes (a .form) (a .optional) (a .initial) (a .table .now) (a .extra .now) (a .out .now))
@@ -98,7 +98,7 @@ returns-2 c =
     let a = start (e .before) .args in
     let pad = e .before .before .padding-of .result in
     let after : routeAfter (a .optional) (a .table .now) (a .extra .now) ≡ a .table .now ++ (length (a .extra .now) ∷ a .extra .now) = rw (eq-eqb (a .optional) 1 (c .before .before .before .before .if2 .taken)) in
-    whole e _ (c .before .before .put-route .ensures ∙ placed (a .table .now) (a .extra .now) (a .out .now) (bytesOf 2 (28672 + 512 * a .optional + 256 * a .initial + length (a .table .now))) _ pad (sym after))
+    whole e _ (c .before .before .put-route .ensures ∙ placed (a .table .now) (a .extra .now) (a .out .now) (bytesOf 2 (0x7000 + 512 * a .optional + 256 * a .initial + length (a .table .now))) _ pad (sym after))
 
 -- without
 one : (c : tie.Else2) → let a = start (c .before .before) .args in c .before .before .before .before .route-length .result ≡ 2 + length (a .table .now)
@@ -119,7 +119,7 @@ returns-3 c =
     let a = start (e .before) .args in
     let pad = e .before .before .padding-of .result in
     let after : routeAfter (a .optional) (a .table .now) (a .extra .now) ≡ a .table .now = rw (ne-eqb (a .optional) 1 (c .before .before .before .before .if2 .left)) (append-nil (a .table .now)) in
-    whole e _ (c .before .before .put-frame .ensures ∙ ap (λ (u : List ℕ). (bytesOf 2 (28672 + 512 * a .optional + 256 * a .initial + length (a .table .now)) ++ (u ++ replicate pad 0)) ++ drop (2 + length u + pad) (a .out .now)) (sym after))
+    whole e _ (c .before .before .put-frame .ensures ∙ ap (λ (u : List ℕ). (bytesOf 2 (0x7000 + 512 * a .optional + 256 * a .initial + length (a .table .now)) ++ (u ++ replicate pad 0)) ++ drop (2 + length u + pad) (a .out .now)) (sym after))
 
 pub write-route-spec : {M : Type 1} → statement M
 write-route-spec =
