@@ -20,15 +20,15 @@ pub const LINE_TOO_LONG: usize = 100008;
 
 // Prints what is wrong with a line, and with which of its arguments, 0 for none; and notes that a
 // line could not be read.
-pub fn complain(fault: usize, argument: usize, line: u64, ending: &mut u8) {
+pub fn complain(rt: &HostRuntime, fault: usize, argument: usize, line: u64, ending: &mut u8) {
     if *ending < UNREAD {
         *ending = UNREAD;
     }
-    print::bytes(b"line ", ending);
-    print::decimal(line, ending);
+    print::bytes(rt, b"line ", ending);
+    print::decimal(rt, line, ending);
     if 0 < argument {
-        print::bytes(b": argument ", ending);
-        print::decimal(argument as u64, ending);
+        print::bytes(rt, b": argument ", ending);
+        print::decimal(rt, argument as u64, ending);
     }
     let words = b"1 : no such call\n\
         2 : missing\n\
@@ -38,13 +38,13 @@ pub fn complain(fault: usize, argument: usize, line: u64, ending: &mut u8) {
         6 : list too long\n\
         7 : too many arguments\n\
         8 : longer than 65,535 bytes\n";
-    print_row(words, fault, ending);
+    print_row(rt, words, fault, ending);
 }
 
-fn print_row(words: &[u8], fault: usize, ending: &mut u8) {
+fn print_row(rt: &HostRuntime, words: &[u8], fault: usize, ending: &mut u8) {
     let name = [text::shown((fault % 10) as u8)];
     let start = text::row(words, &name);
     let end = text::find(words, start, words.len(), b'\n');
-    print::bytes(&words[start..end], ending);
-    print::line_feed(ending);
+    print::bytes(rt, &words[start..end], ending);
+    print::line_feed(rt, ending);
 }

@@ -2,21 +2,21 @@
 use crate::{Memory, Values, arguments, calls, faults, print, text};
 
 // Runs a line. A comment and an empty line are printed as they are.
-pub fn run(line: &[u8], number: u64, ending: &mut u8) {
+pub fn run(rt: &HostRuntime, line: &[u8], number: u64, ending: &mut u8) {
     if 65535 < line.len() {
-        faults::complain(faults::LINE_TOO_LONG, 0, number, ending);
+        faults::complain(rt, faults::LINE_TOO_LONG, 0, number, ending);
     } else if line.len() == 0 || line[0] == b'#' {
-        print::bytes(line, ending);
-        print::line_feed(ending);
+        print::bytes(rt, line, ending);
+        print::line_feed(rt, ending);
     } else {
-        find_call(line, number, ending);
+        find_call(rt, line, number, ending);
     }
 }
 
 // Looks the call up. A row has the call's name, the letter that it has in `calls`, the bytes of its
 // answer, 0 if that is a position, and its arguments in the header's order, in the letters that
 // `arguments::read_one` lists. A list in upper case may be written by the call, and is printed.
-fn find_call(line: &[u8], number: u64, ending: &mut u8) {
+fn find_call(rt: &HostRuntime, line: &[u8], number: u64, ending: &mut u8) {
     let table: &[u8] = b"pk_link_distance A1nn\n\
         pk_link_next B1n\n\
         pk_packet_distance C1nn\n\
@@ -52,30 +52,31 @@ fn find_call(line: &[u8], number: u64, ending: &mut u8) {
     let end = text::find(line, 0, line.len(), b' ');
     let start = text::row(table, &line[0..end]);
     if table.len() <= start {
-        faults::complain(faults::NO_SUCH_CALL, 0, number, ending);
+        faults::complain(rt, faults::NO_SUCH_CALL, 0, number, ending);
     } else {
         let row_end = text::find(table, start, table.len(), b'\n');
-        make(&table[start..row_end], line, end, number, ending);
+        make(rt, &table[start..row_end], line, end, number, ending);
     }
 }
 
 // Reads the arguments and makes the call.
-fn make(row: &[u8], line: &[u8], from: usize, number: u64, ending: &mut u8) {
+fn make(rt: &HostRuntime, row: &[u8], line: &[u8], from: usize, number: u64, ending: &mut u8) {
     let mut a = [0u8; 8192];
     let mut b = [0u8; 8192];
     let mut c = [0u8; 8192];
     let mut values = [0usize; 13];
     let reason = arguments::read(line, from, row, &mut a, &mut b, &mut c, &mut values);
     if 0 < reason {
-        faults::complain(reason, values[0], number, ending);
+        faults::complain(rt, reason, values[0], number, ending);
     } else {
-        answer(row, &mut a, &mut b, &mut c, &values, ending);
+        answer(rt, row, &mut a, &mut b, &mut c, &values, ending);
     }
 }
 
 // Makes the call, and prints its answer and the lists that it may have written. Every row has a
 // letter and a digit.
 fn answer(
+    rt: &HostRuntime,
     row: &[u8],
     a: &mut Memory,
     b: &mut Memory,
@@ -86,12 +87,12 @@ fn answer(
     if 1 < row.len() {
         let code = make_with(row[0], a, b, c, values);
         if row[1] == b'0' {
-            print::position(code, ending);
+            print::position(rt, code, ending);
         } else {
-            print::code(code, text::digit(row[1]) as usize, ending);
+            print::code(rt, code, text::digit(row[1]) as usize, ending);
         }
-        print_lists(row, a, b, c, values, ending);
-        print::line_feed(ending);
+        print_lists(rt, row, a, b, c, values, ending);
+        print::line_feed(rt, ending);
     }
 }
 
@@ -109,13 +110,21 @@ fn make_with(call: u8, a: &mut [u8], b: &mut [u8], c: &mut [u8], values: &Values
     )
 }
 
-fn print_lists(row: &[u8], a: &Memory, b: &Memory, c: &Memory, values: &Values, ending: &mut u8) {
+fn print_lists(
+    rt: &HostRuntime,
+    row: &[u8],
+    a: &Memory,
+    b: &Memory,
+    c: &Memory,
+    values: &Values,
+    ending: &mut u8,
+) {
     let mut k = 2;
     while k < row.len() {
         match row[k] {
-            b'A' => print::list(a, values[10], 0, ending),
-            b'B' => print::list(b, values[11], 0, ending),
-            b'C' | b'T' | b'L' => print::list(c, values[12], 0, ending),
+            b'A' => print::list(rt, a, values[10], 0, ending),
+            b'B' => print::list(rt, b, values[11], 0, ending),
+            b'C' | b'T' | b'L' => print::list(rt, c, values[12], 0, ending),
             _ => (),
         }
         k += 1;

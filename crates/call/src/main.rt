@@ -1,10 +1,12 @@
 // Makes the calls that standard input has, one a line, and prints their answers (docs/CALL.md).
 // Here the input is cut into lines; `line` runs one of them.
 //
-// A proved program has no exit status. So the last thing that it does is to write a mark to
-// descriptor 3, from which tools/run-proved makes a status: `done` if the whole input was read and
-// all was printed, `done unread` if besides a line could not be read, `input` if a read failed,
-// `output` if a write failed. Where descriptor 3 is not open, nothing is written to it.
+// The last thing that it does is to write a mark to descriptor 3, from which tools/run-proved makes
+// a status: `done` if the whole input was read and all was printed, `done unread` if besides a line
+// could not be read, `input` if a read failed, `left` if nobody reads the report any more, `output`
+// if another write failed. Where descriptor 3 is no pipe, nothing is written to it.
+#![tactic(auto)]
+
 ghost use Rattle.std.specs.Prelude.{◌<◌, ◌≤◌, length};
 
 mod arguments;
@@ -15,7 +17,7 @@ mod line;
 mod print;
 mod text;
 
-use libc::STDIN_FILENO;
+use std::io::Read;
 
 // The memory of a list. Tickets and lengths are kept as their bytes, the highest first, and take at
 // most half of it.
@@ -33,61 +35,62 @@ const UNREAD: u8 = 1;
 const FAILED: u8 = 2;
 
 // The input has twice the room of what is kept of a line, so that there is always some to read to.
-fn main() {
+fn main(rt: HostRuntime) {
     let mut input = [0; 131072];
     let mut ending = 0;
-    read_all(&mut input, &mut ending);
+    read_all(&rt, &mut input, &mut ending);
     if ending == 0 {
-        print::mark(b"done\n");
+        print::mark(&rt, b"done\n");
     } else if ending == UNREAD {
-        print::mark(b"done unread\n");
+        print::mark(&rt, b"done unread\n");
     }
 }
 
 // Reads to the end of the input, and runs each line once it is whole: the first `kept` bytes of the
 // input are a line that is not. A proved loop has to end, and nothing says that the input does: the
 // reads are counted down from 2^64 - 1. `ending` is 0 at first, and becomes what went wrong.
-fn read_all(input: &mut [u8], ending: &mut u8) {
+fn read_all(rt: &HostRuntime, input: &mut [u8], ending: &mut u8) {
     let mut lines = 0;
     let mut kept = 0;
     let mut reads = u64::MAX;
     while 0 < reads {
-        let came = read_some(&mut input[kept..], ending);
+        let came = read_some(rt, &mut input[kept..], ending);
         let filled = kept + came;
         if came == 0 {
-            run_last(&input[0..filled], lines, ending);
+            run_last(rt, &input[0..filled], lines, ending);
             return;
         }
-        let start = run_lines(&input[0..filled], &mut lines, ending);
+        let start = run_lines(rt, &input[0..filled], &mut lines, ending);
         kept = keep(input, start, filled);
         reads -= 1;
     }
 }
 
 // Reads once: 0 bytes at the end of the input, if the read failed, and if something failed before.
-fn read_some(input: &mut [u8], ending: &mut u8) -> usize
+fn read_some(rt: &HostRuntime, input: &mut [u8], ending: &mut u8) -> usize
     ensures { result ≤ length input.old }
 {
     if *ending < FAILED {
-        let got = libc::read(STDIN_FILENO, input);
-        if got < 0 {
-            print::mark(b"input\n");
-            *ending = FAILED;
+        match rt.stdin().read(input) {
+            Ok(came) => return came,
+            Err(_) => {
+                print::mark(rt, b"input\n");
+                *ending = FAILED;
+            }
         }
-        return io::count(got, input);
     }
     0
 }
 
 // Runs the lines that have their line feed, and answers where the rest begins.
-fn run_lines(input: &[u8], lines: &mut u64, ending: &mut u8) -> usize
+fn run_lines(rt: &HostRuntime, input: &[u8], lines: &mut u64, ending: &mut u8) -> usize
     ensures { result ≤ length input.now }
 {
     let mut start = 0;
     let mut end = text::find(input, 0, input.len(), b'\n');
     while end < input.len() {
         *lines = std::num::wrapping_add_u64(*lines, 1);
-        line::run(&input[start..end], *lines, ending);
+        line::run(rt, &input[start..end], *lines, ending);
         start = end + 1;
         end = text::find(input, start, input.len(), b'\n');
     }
@@ -95,9 +98,9 @@ fn run_lines(input: &[u8], lines: &mut u64, ending: &mut u8) -> usize
 }
 
 // A last line without its line feed, if there is one.
-fn run_last(input: &[u8], lines: u64, ending: &mut u8) {
+fn run_last(rt: &HostRuntime, input: &[u8], lines: u64, ending: &mut u8) {
     if 0 < input.len() {
-        line::run(input, std::num::wrapping_add_u64(lines, 1), ending);
+        line::run(rt, input, std::num::wrapping_add_u64(lines, 1), ending);
     }
 }
 

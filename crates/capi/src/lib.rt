@@ -1,6 +1,6 @@
-// The exported calls of `libpepperknoll.a`, for C, C++, Ada and Rust. Each calls a function of
-// `sequence`, `frame_reader`, `frame_writer` or of a crate named `.._bytes` and has the same
-// contract; bindings/c/pepperknoll.h describes the calls to C programmers. A list is lent as a
+// The calls of `libpepperknoll.a`, for C, C++, Ada and Rust; `capi_c` exports them. Each calls a
+// function of `sequence`, `frame_reader`, `frame_writer` or of a crate named `.._bytes` and has the
+// same contract; bindings/c/pepperknoll.h describes the calls to C programmers. A list is lent as a
 // pointer and a length.
 //
 // A call answers one number, but for those whose comment says otherwise. Its low 8 bits are the
@@ -10,6 +10,8 @@
 // table that has another length or is not in good order, and for nothing else. A list for results
 // that has fewer places than the call writes is refused with 5; places past those keep what they
 // held.
+#![tactic(auto)]
+
 ghost use Rattle.std.specs.Prelude.{◌≡◌, length};
 ghost use Rattle.sequence.specs.Modular.{distance, next};
 ghost use Rattle.window.specs.History.{by_data, ready, not_ready, reject};
@@ -32,16 +34,14 @@ use sequence::{LinkNumber, PacketNumber};
 // is taken as its remainder.
 
 // The distance from the link number `from` to `to`: `to` minus `from`, modulo 64.
-#[unsafe(no_mangle)]
-pub extern "C" fn pk_link_distance(from: u8, to: u8) -> u8
+pub fn pk_link_distance(from: u8, to: u8) -> u8
     ensures { result ≡ distance 64 from to }
 {
     LinkNumber(from).distance_to(LinkNumber(to))
 }
 
 // The link number after `number`, modulo 64.
-#[unsafe(no_mangle)]
-pub extern "C" fn pk_link_next(number: u8) -> u8
+pub fn pk_link_next(number: u8) -> u8
     ensures { result ≡ next 64 number }
 {
     let after = LinkNumber(number).next();
@@ -49,16 +49,14 @@ pub extern "C" fn pk_link_next(number: u8) -> u8
 }
 
 // The distance from the packet number `from` to `to`: `to` minus `from`, modulo 16.
-#[unsafe(no_mangle)]
-pub extern "C" fn pk_packet_distance(from: u8, to: u8) -> u8
+pub fn pk_packet_distance(from: u8, to: u8) -> u8
     ensures { result ≡ distance 16 from to }
 {
     PacketNumber(from).distance_to(PacketNumber(to))
 }
 
 // The packet number after `number`, modulo 16.
-#[unsafe(no_mangle)]
-pub extern "C" fn pk_packet_next(number: u8) -> u8
+pub fn pk_packet_next(number: u8) -> u8
     ensures { result ≡ next 16 number }
 {
     let after = PacketNumber(number).next();
@@ -70,8 +68,7 @@ pub extern "C" fn pk_packet_next(number: u8) -> u8
 
 // Writes a sending end that has sent nothing, whatever the bytes were. There is no value. Refused
 // with 14.
-#[unsafe(no_mangle)]
-pub extern "C" fn pk_sender_fresh(state: &mut [u8]) -> u32
+pub fn pk_sender_fresh(state: &mut [u8]) -> u32
     ensures value { result ≡ fresh_sender_answer state.old }
     ensures state_after { state.new ≡ fresh_sender_bytes state.old }
 {
@@ -79,8 +76,7 @@ pub extern "C" fn pk_sender_fresh(state: &mut [u8]) -> u32
 }
 
 // Answers 0 if the bytes are a sending end in good order, else 14. There is no value.
-#[unsafe(no_mangle)]
-pub extern "C" fn pk_sender_in_order(state: &[u8]) -> u32
+pub fn pk_sender_in_order(state: &[u8]) -> u32
     ensures { result ≡ sender_order_answer state.now }
 {
     window_bytes::sender_in_order(state)
@@ -88,8 +84,7 @@ pub extern "C" fn pk_sender_in_order(state: &[u8]) -> u32
 
 // Asks for the PS of the next packet: bits 8 to 15. Refused with 14, 9 (the window is closed, or
 // the end is held off).
-#[unsafe(no_mangle)]
-pub extern "C" fn pk_sender_send(state: &mut [u8]) -> u32
+pub fn pk_sender_send(state: &mut [u8]) -> u32
     ensures value { result ≡ send_answer state.old }
     ensures state_after { state.new ≡ send_bytes state.old }
 {
@@ -98,8 +93,7 @@ pub extern "C" fn pk_sender_send(state: &mut [u8]) -> u32
 
 // Takes the PR of received DATA, which becomes the lower edge; the mark stays as it is. There is no
 // value. Refused with 14, 1, 16.
-#[unsafe(no_mangle)]
-pub extern "C" fn pk_sender_acknowledge(state: &mut [u8], pr: u8) -> u32
+pub fn pk_sender_acknowledge(state: &mut [u8], pr: u8) -> u32
     ensures value { result ≡ pr_answer by_data state.old pr }
     ensures state_after { state.new ≡ pr_bytes by_data state.old pr }
 {
@@ -107,8 +101,7 @@ pub extern "C" fn pk_sender_acknowledge(state: &mut [u8], pr: u8) -> u32
 }
 
 // Takes the PR of a received RR, and lifts the mark. There is no value. Refused with 14, 1, 16.
-#[unsafe(no_mangle)]
-pub extern "C" fn pk_sender_ready(state: &mut [u8], pr: u8) -> u32
+pub fn pk_sender_ready(state: &mut [u8], pr: u8) -> u32
     ensures value { result ≡ pr_answer ready state.old pr }
     ensures state_after { state.new ≡ pr_bytes ready state.old pr }
 {
@@ -116,8 +109,7 @@ pub extern "C" fn pk_sender_ready(state: &mut [u8], pr: u8) -> u32
 }
 
 // Takes the PR of a received RNR, and sets the mark. There is no value. Refused with 14, 1, 16.
-#[unsafe(no_mangle)]
-pub extern "C" fn pk_sender_not_ready(state: &mut [u8], pr: u8) -> u32
+pub fn pk_sender_not_ready(state: &mut [u8], pr: u8) -> u32
     ensures value { result ≡ pr_answer not_ready state.old pr }
     ensures state_after { state.new ≡ pr_bytes not_ready state.old pr }
 {
@@ -126,8 +118,7 @@ pub extern "C" fn pk_sender_not_ready(state: &mut [u8], pr: u8) -> u32
 
 // Takes the PR of a received REJECT, and lifts the mark; the next PS stays as it is. There is no
 // value. Refused with 14, 1, 16.
-#[unsafe(no_mangle)]
-pub extern "C" fn pk_sender_reject(state: &mut [u8], pr: u8) -> u32
+pub fn pk_sender_reject(state: &mut [u8], pr: u8) -> u32
     ensures value { result ≡ pr_answer reject state.old pr }
     ensures state_after { state.new ≡ pr_bytes reject state.old pr }
 {
@@ -139,8 +130,7 @@ pub extern "C" fn pk_sender_reject(state: &mut [u8], pr: u8) -> u32
 
 // Writes a receiving end that has accepted nothing, whatever the bytes were. There is no value.
 // Refused with 14.
-#[unsafe(no_mangle)]
-pub extern "C" fn pk_receiver_fresh(state: &mut [u8]) -> u32
+pub fn pk_receiver_fresh(state: &mut [u8]) -> u32
     ensures value { result ≡ fresh_receiver_answer state.old }
     ensures state_after { state.new ≡ fresh_receiver_bytes state.old }
 {
@@ -148,8 +138,7 @@ pub extern "C" fn pk_receiver_fresh(state: &mut [u8]) -> u32
 }
 
 // Answers 0 if the bytes are a receiving end in good order, else 14. There is no value.
-#[unsafe(no_mangle)]
-pub extern "C" fn pk_receiver_in_order(state: &[u8]) -> u32
+pub fn pk_receiver_in_order(state: &[u8]) -> u32
     ensures { result ≡ receiver_order_answer state.now }
 {
     window_bytes::receiver_in_order(state)
@@ -157,8 +146,7 @@ pub extern "C" fn pk_receiver_in_order(state: &[u8]) -> u32
 
 // Takes the PS of a received packet. Bit 8 is 1 if PR is due. Refused with 14, 1, then for a PS
 // other than the expected one with 12, 10 or 11.
-#[unsafe(no_mangle)]
-pub extern "C" fn pk_receiver_receive(state: &mut [u8], ps: u8) -> u32
+pub fn pk_receiver_receive(state: &mut [u8], ps: u8) -> u32
     ensures value { result ≡ receive_answer state.old ps }
     ensures state_after { state.new ≡ receive_bytes state.old ps }
 {
@@ -167,8 +155,7 @@ pub extern "C" fn pk_receiver_receive(state: &mut [u8], ps: u8) -> u32
 
 // Answers the PR to send now, bits 8 to 15, and sets the count of packets not yet told to 0.
 // Refused with 14.
-#[unsafe(no_mangle)]
-pub extern "C" fn pk_receiver_tell(state: &mut [u8]) -> u32
+pub fn pk_receiver_tell(state: &mut [u8]) -> u32
     ensures value { result ≡ tell_answer state.old }
     ensures state_after { state.new ≡ tell_bytes state.old }
 {
@@ -179,8 +166,7 @@ pub extern "C" fn pk_receiver_tell(state: &mut [u8]) -> u32
 
 // Writes a state in which nothing has arrived, whatever the bytes were. There is no value. Refused
 // with 14.
-#[unsafe(no_mangle)]
-pub extern "C" fn pk_resequencer_fresh(state: &mut [u8]) -> u32
+pub fn pk_resequencer_fresh(state: &mut [u8]) -> u32
     ensures value { result ≡ fresh_answer state.old }
     ensures state_after { state.new ≡ fresh_bytes state.old }
 {
@@ -188,8 +174,7 @@ pub extern "C" fn pk_resequencer_fresh(state: &mut [u8]) -> u32
 }
 
 // Answers 0 if the bytes are a state in good order, else 14. There is no value.
-#[unsafe(no_mangle)]
-pub extern "C" fn pk_resequencer_in_order(state: &[u8]) -> u32
+pub fn pk_resequencer_in_order(state: &[u8]) -> u32
     ensures { result ≡ order_answer state.now }
 {
     resequencer_bytes::in_order(state)
@@ -199,13 +184,7 @@ pub extern "C" fn pk_resequencer_in_order(state: &[u8]) -> u32
 // say what became of it: 0 held, 1 handed on, 2 old, 3 duplicate. Bits 16 to 23 are the number of
 // tickets handed on; they are written to the first 32 places of `tickets` in order, and 0 to the
 // others of these 32. Refused with 14, 1, 5 (fewer than 32 places).
-#[unsafe(no_mangle)]
-pub extern "C" fn pk_resequencer_arrive(
-    state: &mut [u8],
-    tickets: &mut [u16],
-    sn: u8,
-    ticket: u16,
-) -> u32
+pub fn pk_resequencer_arrive(state: &mut [u8], tickets: &mut [u16], sn: u8, ticket: u16) -> u32
     ensures value { result ≡ arrive_answer state.old (length tickets.old) sn ticket }
     ensures state_after { state.new ≡ arrive_bytes state.old (length tickets.old) sn ticket }
     ensures tickets_after { tickets.new ≡ arrive_tickets state.old tickets.old sn ticket }
@@ -215,8 +194,7 @@ pub extern "C" fn pk_resequencer_arrive(
 
 // The clock of the number `sn` ends. Answers and writes as an arrival that hands on does. Refused
 // with 14, 1, 5 (fewer than 32 places), 7.
-#[unsafe(no_mangle)]
-pub extern "C" fn pk_resequencer_clock_end(state: &mut [u8], tickets: &mut [u16], sn: u8) -> u32
+pub fn pk_resequencer_clock_end(state: &mut [u8], tickets: &mut [u16], sn: u8) -> u32
     ensures value { result ≡ clock_end_answer state.old (length tickets.old) sn }
     ensures state_after { state.new ≡ clock_end_bytes state.old (length tickets.old) sn }
     ensures tickets_after { tickets.new ≡ clock_end_tickets state.old tickets.old sn }
@@ -231,8 +209,7 @@ pub extern "C" fn pk_resequencer_clock_end(state: &mut [u8], tickets: &mut [u16]
 // what they held. Bits 8 and up are the frame's length. Refused with 1 (a packet that has not 10
 // bytes, a kind, a form or a field that is not valid, ROUTE, a byte that the kind has no use for
 // and that is not 0, or user data with a kind that has none), 23 (the short uplink), 13, 5.
-#[unsafe(no_mangle)]
-pub extern "C" fn pk_frame_write(form: u8, packet: &[u8], user: &[u8], out: &mut [u8]) -> u64
+pub fn pk_frame_write(form: u8, packet: &[u8], user: &[u8], out: &mut [u8]) -> u64
     ensures value { result ≡ write_answer form packet.now (length user.now) (length out.old) }
     ensures out_after { out.new ≡ write_bytes form packet.now user.now out.old }
 {
@@ -243,8 +220,7 @@ pub extern "C" fn pk_frame_write(form: u8, packet: &[u8], user: &[u8], out: &mut
 // be empty, as one frame to the front of `out`; bytes beyond the frame keep what they held.
 // `initial` is IN. Bits 8 and up are the frame's length. Refused with 1 (the form, IN or OF over 1,
 // or data although OF is 0), 23 (the short uplink), 13, 5.
-#[unsafe(no_mangle)]
-pub extern "C" fn pk_route_write(
+pub fn pk_route_write(
     form: u8,
     initial: u8,
     optional: u8,
@@ -261,8 +237,7 @@ pub extern "C" fn pk_route_write(
 // Reads a frame and writes its packet to the first 10 bytes of `packet`. Bits 8 to 15 are the index
 // in `frame` where the user data starts, bits 16 and up its length; of a ROUTE, those of what
 // follows RTL. Refused with 1 (the form), 2, 3, 13, 5 (fewer than 10 bytes).
-#[unsafe(no_mangle)]
-pub extern "C" fn pk_frame_read(form: u8, frame: &[u8], packet: &mut [u8]) -> u64
+pub fn pk_frame_read(form: u8, frame: &[u8], packet: &mut [u8]) -> u64
     ensures value { result ≡ read_answer form frame.now (length packet.old) }
     ensures packet_after { packet.new ≡ read_bytes form frame.now packet.old }
 {
@@ -273,8 +248,7 @@ pub extern "C" fn pk_frame_read(form: u8, frame: &[u8], packet: &mut [u8]) -> u6
 // no refusal number. For 2 it is the frame's length, for 3 the first byte with a wrong fixed field,
 // fill, LV, length of a ROUTE or padding or past the segments of a packet without LV, for 13 the
 // form's largest size; 0 for 1, and if the frame reads.
-#[unsafe(no_mangle)]
-pub extern "C" fn pk_frame_fault(form: u8, frame: &[u8]) -> usize
+pub fn pk_frame_fault(form: u8, frame: &[u8]) -> usize
     ensures { result ≡ fault_answer form frame.now }
 {
     frame_reader::fault(form, frame)
@@ -286,8 +260,7 @@ pub extern "C" fn pk_frame_fault(form: u8, frame: &[u8]) -> usize
 // `lengths`; places beyond them keep what they held. SN and PS count up from `sn` and `ps`; `pr`
 // and `ch` are the same on all frames. Bits 8 to 31 are the number of frames, bits 32 and up the
 // number of their bytes. Refused with 1, 23 (the short uplink), 4, 5.
-#[unsafe(no_mangle)]
-pub extern "C" fn pk_message_cut(
+pub fn pk_message_cut(
     form: u8,
     sn: u8,
     ps: u8,
@@ -309,8 +282,7 @@ pub extern "C" fn pk_message_cut(
 // with 1, 2 (the lengths do not sum to the bytes, or there are no frames), then frame by frame 2,
 // 3, 13 as in reading, 3 (not DATA, or M = 0 before the last frame), 17, 2 (M = 1 on the last
 // frame), then 4, 5.
-#[unsafe(no_mangle)]
-pub extern "C" fn pk_message_join(form: u8, lengths: &[usize], frames: &[u8], out: &mut [u8]) -> u64
+pub fn pk_message_join(form: u8, lengths: &[usize], frames: &[u8], out: &mut [u8]) -> u64
     ensures value { result ≡ joined_answer (join_of (form_at form) lengths.now frames.now (length out.old)) }
     ensures out_after { out.new ≡ join_output (form_at form) lengths.now frames.now out.old }
 {
@@ -322,8 +294,7 @@ pub extern "C" fn pk_message_join(form: u8, lengths: &[usize], frames: &[u8], ou
 // the position that `pk_frame_fault` gives; for 17, a wrong M and a frame that is not DATA it is
 // the frame's first byte; for lengths that do not sum to the bytes, no frames, 4 and 5 the length
 // of all the bytes; 0 for 1, and if the frames are joined.
-#[unsafe(no_mangle)]
-pub extern "C" fn pk_message_fault(form: u8, lengths: &[usize], frames: &[u8], room: usize) -> usize
+pub fn pk_message_fault(form: u8, lengths: &[usize], frames: &[u8], room: usize) -> usize
     ensures { result ≡ joined_position (join_of (form_at form) lengths.now frames.now room) }
 {
     message_bytes::fault(form, lengths, frames, room)
@@ -334,8 +305,7 @@ pub extern "C" fn pk_message_fault(form: u8, lengths: &[usize], frames: &[u8], r
 
 // Writes a table in which no address has a code, whatever the bytes were. There is no value.
 // Refused with 14.
-#[unsafe(no_mangle)]
-pub extern "C" fn pk_table_empty(table: &mut [u8]) -> u32
+pub fn pk_table_empty(table: &mut [u8]) -> u32
     ensures value { result ≡ empty_answer table.old }
     ensures table_after { table.new ≡ empty_bytes table.old }
 {
@@ -343,16 +313,14 @@ pub extern "C" fn pk_table_empty(table: &mut [u8]) -> u32
 }
 
 // The set of an address's codes: bits 8 to 23. Refused with 14.
-#[unsafe(no_mangle)]
-pub extern "C" fn pk_table_codes(table: &[u8], address: u8) -> u32
+pub fn pk_table_codes(table: &[u8], address: u8) -> u32
     ensures { result ≡ codes_answer table.now address }
 {
     route_bytes::codes(table, address)
 }
 
 // The number of interrogators of an address: bits 8 to 15. Refused with 14.
-#[unsafe(no_mangle)]
-pub extern "C" fn pk_table_count(table: &[u8], address: u8) -> u32
+pub fn pk_table_count(table: &[u8], address: u8) -> u32
     ensures { result ≡ count_answer table.now address }
 {
     route_bytes::count(table, address)
@@ -362,8 +330,7 @@ pub extern "C" fn pk_table_count(table: &[u8], address: u8) -> u32
 // not in the set `failed`, else the lowest code of the address that is not in `failed`. `last` is
 // 65535 if there is none. Bits 8 to 15 are the code. Refused with 14, 1 (`last` is over 15 and not
 // 65535), 8, 15.
-#[unsafe(no_mangle)]
-pub extern "C" fn pk_table_choose(table: &[u8], address: u8, last: u16, failed: u16) -> u32
+pub fn pk_table_choose(table: &[u8], address: u8, last: u16, failed: u16) -> u32
     ensures { result ≡ choose_answer table.now address last failed }
 {
     route_bytes::choose(table, address, last, failed)
@@ -372,8 +339,7 @@ pub extern "C" fn pk_table_choose(table: &[u8], address: u8, last: u16, failed: 
 // Changes a table by a route list. The addresses that had a code before and have none after are
 // written to the first 256 places of `lost`, rising, and 0 to the others of these 256; bits 8 and
 // up are their number. Refused with 14, 5 (fewer than 256 places), 6.
-#[unsafe(no_mangle)]
-pub extern "C" fn pk_table_update(table: &mut [u8], list: &[u8], lost: &mut [u8]) -> u32
+pub fn pk_table_update(table: &mut [u8], list: &[u8], lost: &mut [u8]) -> u32
     ensures value { result ≡ update_answer table.old list.now (length lost.old) }
     ensures table_after { table.new ≡ update_bytes table.old list.now (length lost.old) }
     ensures lost_after { lost.new ≡ update_lost table.old list.now lost.old }
@@ -383,8 +349,7 @@ pub extern "C" fn pk_table_update(table: &mut [u8], list: &[u8], lost: &mut [u8]
 
 // Chooses an interrogator from the set `codes`, and answers as `pk_table_choose` does. Refused with
 // 1, 8, 15.
-#[unsafe(no_mangle)]
-pub extern "C" fn pk_choose(codes: u16, last: u16, failed: u16) -> u32
+pub fn pk_choose(codes: u16, last: u16, failed: u16) -> u32
     ensures { result ≡ choose_among_answer codes last failed }
 {
     route_bytes::choose_among(codes, last, failed)

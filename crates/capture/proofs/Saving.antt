@@ -1,9 +1,9 @@
 -- Saving: the sum of the lengths, and the loop that writes the offsets.
 -- Assumes nothing.
 use mathlib.Core.Path.{◌≡◌, refl, sym, ap, ap₂, ◌∙◌}
-use mathlib.Core.Bool.{Bool, true, false, ◌&&◌}
+use mathlib.Core.Bool.{true, false, ◌&&◌}
 use mathlib.Core.List.{List, [], ◌∷◌, ◌++◌, append_assoc, append-nil}
-use Prim.Native.Nat.{ℕ, suc, ◌+◌, ◌-◌, ◌*◌, ◌<◌, ◌≤◌}
+use Prim.Native.Nat.{ℕ, ◌+◌, ◌-◌, ◌*◌, ◌<◌, ◌≤◌}
 use native.Mathlib.Nat.{suc-mul}
 use native.Mathlib.Numerals.{add-one}
 use native.Mathlib.Omega.{arith}
@@ -27,7 +27,7 @@ use Rattle.capture.specs.declared.Saved.TheVariants.{Bytes, Refused as NotSaved}
 use Rattle.capture.specs.Files.{words, header_size, offsets_from, header_of, file_of, most_frames, most_bytes, none_over}
 use Rattle.capture.specs.Saving.{saved_number, saved_bytes, file_size, save_verdict, save_by, save_of, save_output}
 use Rattle.capture.specs.Parts.{limits_verdict, with_offsets}
-use Rattle.capture.proofs.Numbers.{Grown, grows, same_size}
+use Rattle.capture.proofs.Numbers.{grows, same_size}
 
 -- numbers of at most `most` have a small sum
 pub sum-most : (most : ℕ) (ns : List ℕ) → none_over most ns ≡ true → sum ns ≤ length ns * most

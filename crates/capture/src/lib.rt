@@ -1,5 +1,7 @@
 // Captures: frames saved in a file that field staff can open (document 02, Q-12). specs/Files.antt
 // has the file. All calls work on lent bytes.
+#![tactic(auto)]
+
 ghost use Rattle.std.specs.Prelude.{◌≡◌, [], ◌∷◌, ◌+◌, ◌*◌, ◌≤◌, ◌<◌, length};
 ghost use Rattle.std.proofs.Math.Seq.{paste};
 ghost use Rattle.refusal.specs.Numbers.{verdict_number, value_by};
@@ -14,21 +16,21 @@ ghost use Rattle.capture.specs.Parts.{limits_verdict, Headed, with_offsets, offs
 use refusal::{Refusal, Verdict};
 
 // What saving answers: the length in bytes of the file that was written, or why none was.
-#[derive(Drop)]
+#[derive(Clone, Copy)]
 pub enum Saved {
     Bytes(usize),
     Refused(Refusal),
 }
 
 // What opening answers: the number of the form and the count of frames, or why the file is refused.
-#[derive(Drop)]
+#[derive(Clone, Copy)]
 pub enum Opened {
     Capture(u8, usize),
     Refused(Refusal),
 }
 
 // Where a frame is in a file: the index of its first byte, and its length in bytes.
-#[derive(Drop)]
+#[derive(Clone, Copy)]
 pub struct Place {
     pub at: usize,
     pub len: usize,
@@ -166,7 +168,7 @@ fn put_header(form: u8, lengths: &[usize], out: &mut [u8])
 // the other, `lengths` their lengths. The file is written to the front of `out`; bytes past it keep
 // what they held. The frames are not read. A refusal leaves `out` as it was.
 pub fn save(form: u8, lengths: &[usize], frames: &[u8], out: &mut [u8]) -> Saved
-    ensures value_2 { result ≡ save_of form lengths.now frames.now (length out.old) }
+    ensures whole { result ≡ save_of form lengths.now frames.now (length out.old) }
     ensures written { out.new ≡ save_output form lengths.now frames.now out.old }
     ensures number { saved_number result ≡ verdict_number (save_verdict form lengths.now frames.now (length out.old)) }
     ensures value { saved_bytes result ≡ value_by (save_verdict form lengths.now frames.now (length out.old)) (file_size lengths.now frames.now) }

@@ -1,6 +1,8 @@
 // Captures for callers that are not written in Rattle: an answer is one number. That of saving and
 // of opening has the refusal number in its low byte and the values above it; a place is never
 // refused, and has none. `capi` exports these calls.
+#![tactic(auto)]
+
 ghost use Rattle.std.specs.Prelude.{◌≡◌, length};
 ghost use Rattle.capture.specs.Saving.{save_of, save_output};
 ghost use Rattle.capture.specs.Opening.{open_of, place_in};

@@ -1,10 +1,10 @@
 -- The claims about captures.
 -- Assumes nothing.
-use mathlib.Core.Path.{◌≡◌, refl, sym, ap, ap₂, ◌∙◌, subst}
+use mathlib.Core.Path.{◌≡◌, refl, sym, ap, ap₂, ◌∙◌}
 use mathlib.Core.Bool.{true}
 use mathlib.Core.List.{List, [], ◌∷◌, ◌++◌}
 use mathlib.Core.Logic.{◌≢◌}
-use Prim.Native.Nat.{ℕ, zero, suc, ◌+◌, ◌-◌, ◌*◌, ◌<◌, ◌≤◌}
+use Prim.Native.Nat.{ℕ, zero, suc, ◌+◌, ◌-◌, ◌*◌, ◌≤◌}
 use native.Mathlib.Nat.{suc-mul}
 use native.Mathlib.Numerals.{add-one}
 use native.Mathlib.Omega.{arith}
@@ -20,12 +20,11 @@ use Rattle.lists.proofs.Frames.{parts-back, sum-lengths, count-lengths, count-pa
 use Rattle.frame_fields.specs.Rows.{number_in, AreBytes}
 use Rattle.frame_form.proofs.Claims.{form-numbers}
 use Rattle.capture.specs.declared.Saved.TheVariants.{Bytes}
-use Rattle.capture.specs.declared.Opened.{Opened}
 use Rattle.capture.specs.declared.Opened.TheVariants.{Capture}
 use Rattle.capture.specs.declared.Place.{Place}
 use Rattle.capture.specs.Files.{words, numbers_in, header_size, offsets_from, header_of, file_of, most_frames, most_bytes, largest_file, none_over}
 use Rattle.capture.specs.Saving.{saved_number, saved_bytes, file_size, save_verdict, save_by, save_of, output_by, save_output}
-use Rattle.capture.specs.Opening.{opened_number, opened_form, opened_count, count_in, form_in, offset_at, later_offsets, last_offset, steps_from, open_verdict, open_by, open_of, place_in, part_at, frame_in, frames_in}
+use Rattle.capture.specs.Opening.{opened_number, opened_form, opened_count, count_in, form_in, offset_at, later_offsets, last_offset, steps_from, open_verdict, open_by, open_of, place_in, part_at, frames_in}
 use Rattle.capture.proofs.Saving.{sum-most, small, header-length, file-length, saveable, saved}
 use Rattle.capture.proofs.Opening.{past-count}
 use Rattle.capture_claims.specs.Claims.{Holds, capture_of, saved_frames, SavedIsOpened, OpenedIsSaved, FramesLie, CaptureClaim, Largest, RefusalsChangeNothing}

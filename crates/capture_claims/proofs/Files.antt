@@ -1,13 +1,13 @@
 -- Files that open: what their header says, and that a file which was saved is one of them.
 -- Assumes nothing.
 use mathlib.Core.Path.{◌≡◌, refl, sym, ap, ap₂, ◌∙◌}
-use mathlib.Core.Bool.{Bool, true, false, ◌&&◌}
-use mathlib.Core.List.{List, [], ◌∷◌, ◌++◌}
-use Prim.Native.Nat.{ℕ, ◌+◌, ◌*◌, ◌<◌, ◌≤◌}
+use mathlib.Core.Bool.{true, false, ◌&&◌}
+use mathlib.Core.List.{List, ◌∷◌, ◌++◌}
+use Prim.Native.Nat.{ℕ, ◌+◌, ◌<◌, ◌≤◌}
 use native.Mathlib.Decide.{dec_lt}
 use native.Mathlib.Omega.{arith}
 use lib.Dec.{leb, eqb}
-use lib.ListN.{length, drop, length-append}
+use lib.ListN.{length, drop}
 use borrow.Author.Tests.{leb-true, le-leb, eqb-true, eq-eqb}
 use Rattle.refusal.specs.declared.Refusal.TheVariants.{OutOfRange, Malformed, MessageTooLong}
 use Rattle.refusal.specs.declared.Verdict.TheVariants.{Done}
@@ -17,8 +17,7 @@ use Rattle.lists.specs.Frames.{sum}
 use Rattle.frame_fields.specs.Rows.{bytes_of}
 use Rattle.frame_form.specs.Forms.{form_at, form_valid}
 use Rattle.frame_form.proofs.Claims.{form-numbers}
-use Rattle.capture.specs.Files.{words, numbers_in, header_size, offsets_from, header_of, file_of, most_frames, most_bytes, none_over}
-use Rattle.capture.specs.Saving.{file_size}
+use Rattle.capture.specs.Files.{words, numbers_in, header_size, header_of, file_of, most_frames, most_bytes, none_over}
 use Rattle.capture.specs.Opening.{count_in, form_in, offset_at, later_offsets, none_falls, last_offset, steps_from, offsets_run, open_verdict}
 use Rattle.capture.proofs.Saving.{file-length}
 use Rattle.capture_claims.proofs.Offsets.{later_from, offsets_are, later-count, later-rise, later_last, later-steps, later-over, word_read, words-read}

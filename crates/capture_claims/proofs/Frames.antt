@@ -2,18 +2,17 @@
 -- Assumes nothing.
 use mathlib.Core.Path.{◌≡◌, refl, sym, ap, ap₂, ◌∙◌}
 use mathlib.Core.Bool.{true}
-use mathlib.Core.List.{List, [], ◌∷◌}
-use Prim.Native.Nat.{ℕ, zero, suc, ◌+◌, ◌-◌, ◌*◌, ◌<◌, ◌≤◌}
+use mathlib.Core.List.{List, ◌∷◌}
+use Prim.Native.Nat.{ℕ, zero, suc, ◌+◌, ◌-◌, ◌*◌, ◌≤◌}
 use native.Mathlib.Omega.{arith}
 use lib.Dec.{leb}
-use lib.ListN.{length, take, drop}
+use lib.ListN.{length, drop}
 use lib.Seq.{drop-drop}
 use borrow.Author.Tests.{leb-true}
 use Rattle.refusal.proofs.Checks.{both_true}
 use Rattle.lists.specs.Frames.{parts_of}
-use Rattle.capture.specs.declared.Place.{Place}
-use Rattle.capture.specs.Files.{numbers_in, header_size}
-use Rattle.capture.specs.Opening.{number_at, count_in, offset_at, none_falls, last_offset, steps_from, place_in, part_at, frame_in, frames_from}
+use Rattle.capture.specs.Files.{numbers_in}
+use Rattle.capture.specs.Opening.{number_at, count_in, offset_at, none_falls, last_offset, steps_from, place_in, part_at, frames_from}
 use Rattle.capture.proofs.Opening.{is-there}
 use Rattle.capture_claims.proofs.Offsets.{first-most}
 use Rattle.capture_claims.proofs.Files.{IsOpen}

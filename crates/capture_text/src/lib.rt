@@ -1,5 +1,7 @@
 // What the capture program prints of a file (document 02, Q-12): a line for each frame, or why the
 // file is refused. specs/Report.antt has the text.
+#![tactic(auto)]
+
 ghost use Rattle.std.specs.Prelude.{◌≡◌, [], ◌∷◌, ◌++◌, ◌+◌, ◌-◌, ◌≤◌, ◌<◌, length};
 ghost use Rattle.refusal.specs.Numbers.{verdict_number};
 ghost use Rattle.text.specs.Decimal.{spaced};
@@ -16,7 +18,7 @@ use refusal::{Refusal, Verdict};
 
 // What the call answers: whether the report was written or refused; its length in bytes; and the
 // refusal number of the file, 0 if the file opened.
-#[derive(Drop)]
+#[derive(Clone, Copy)]
 pub struct Report {
     pub verdict: Verdict,
     pub written: usize,

@@ -1,5 +1,7 @@
 // Frames of typed packets (document 01, "Forms and frames", and document 02, Q-4): a thin layer
 // over `frame_reader` and `frame_writer`, which read and write packets as ten bytes.
+#![tactic(auto)]
+
 ghost use Rattle.std.specs.Prelude.{◌≡◌, [], ◌∷◌, ◌<◌, length};
 ghost use Rattle.refusal.specs.Numbers.{verdict_number, value_by};
 ghost use Rattle.little.specs.Little.{flag};
@@ -17,7 +19,7 @@ use refusal::Refusal;
 use sequence::{LinkNumber, PacketNumber};
 
 // The fields of a DATA packet.
-#[derive(Drop)]
+#[derive(Clone, Copy)]
 pub struct Data {
     // M: more of the message follows
     pub m: bool,
@@ -32,7 +34,7 @@ pub struct Data {
 }
 
 // The fields of a CLEAR REQUEST packet.
-#[derive(Drop)]
+#[derive(Clone, Copy)]
 pub struct ClearRequest {
     // temporary channel, 0 to 3
     pub tc: u8,
@@ -55,7 +57,7 @@ pub struct ClearRequest {
 }
 
 // The fields of a CLEAR CONFIRMATION packet, with the same meaning and range as in a CLEAR REQUEST.
-#[derive(Drop)]
+#[derive(Clone, Copy)]
 pub struct ClearConfirmation {
     pub tc: u8,
     pub sn: LinkNumber,
@@ -66,7 +68,7 @@ pub struct ClearConfirmation {
 
 // The fields of a CALL REQUEST packet, in both directions. Uplink frames have no place for CH,
 // downlink frames none for TC: it is 0 there.
-#[derive(Drop)]
+#[derive(Clone, Copy)]
 pub struct CallRequest {
     // P: priority
     pub p: bool,
@@ -90,7 +92,7 @@ pub struct CallRequest {
 
 // The fields of a CALL ACCEPT packet, in both directions. Uplink frames have no place for TC: it is
 // 0 there.
-#[derive(Drop)]
+#[derive(Clone, Copy)]
 pub struct CallAccept {
     pub tc: u8,
     pub sn: LinkNumber,
@@ -102,7 +104,7 @@ pub struct CallAccept {
 }
 
 // The fields of an RR, RNR or REJECT packet.
-#[derive(Drop)]
+#[derive(Clone, Copy)]
 pub struct FlowControl {
     pub sn: LinkNumber,
     pub ch: u8,
@@ -111,7 +113,7 @@ pub struct FlowControl {
 }
 
 // The fields of an INTERRUPT packet.
-#[derive(Drop)]
+#[derive(Clone, Copy)]
 pub struct Interrupt {
     pub s: bool,
     pub f: bool,
@@ -120,7 +122,7 @@ pub struct Interrupt {
 }
 
 // The fields of a RESET packet.
-#[derive(Drop)]
+#[derive(Clone, Copy)]
 pub struct Reset {
     pub sn: LinkNumber,
     pub ch: u8,
@@ -131,14 +133,14 @@ pub struct Reset {
 }
 
 // The fields of an INTERRUPT CONFIRMATION or RESET CONFIRMATION packet.
-#[derive(Drop)]
+#[derive(Clone, Copy)]
 pub struct Confirmation {
     pub sn: LinkNumber,
     pub ch: u8,
 }
 
 // A packet of any kind but ROUTE.
-#[derive(Drop)]
+#[derive(Clone, Copy)]
 pub enum Packet {
     Data(Data),
     ClearRequest(ClearRequest),
@@ -156,7 +158,7 @@ pub enum Packet {
 
 // The same to a caller who asks for DATA alone: the packet and where the user data is; that the
 // frame contains another packet; or the refusal and its position.
-#[derive(Drop)]
+#[derive(Clone, Copy)]
 pub enum DataRead {
     Data(Data, UserData),
     Other,
@@ -164,14 +166,14 @@ pub enum DataRead {
 }
 
 // A DATA packet, or nothing: what `Packet::data` answers.
-#[derive(Drop)]
+#[derive(Clone, Copy)]
 pub enum MaybeData {
     Nothing,
     Data(Data),
 }
 
 // Where the user data is in a frame: the index of its first byte, and its length in bytes.
-#[derive(Drop)]
+#[derive(Clone, Copy)]
 pub struct UserData {
     pub at: usize,
     pub len: usize,
@@ -179,7 +181,7 @@ pub struct UserData {
 
 // A ROUTE packet that was read: where its table is in the frame, and where its optional data is, if
 // it has some; it may be empty.
-#[derive(Drop)]
+#[derive(Clone, Copy)]
 pub struct Route {
     // IN: initialization
     pub initial: bool,
@@ -191,7 +193,7 @@ pub struct Route {
 
 // What a frame contains, its packet and where the user data is, or a ROUTE; or why the frame is
 // refused, and the position of the fault in it.
-#[derive(Drop)]
+#[derive(Clone, Copy)]
 pub enum Read {
     Packet(Packet, UserData),
     Route(Route),
@@ -199,7 +201,7 @@ pub enum Read {
 }
 
 // What a writer answers: the length in bytes of the frame that it wrote, or why it wrote none.
-#[derive(Drop)]
+#[derive(Clone, Copy)]
 pub enum Written {
     Done(usize),
     Refused(Refusal),
@@ -537,7 +539,7 @@ fn written_at(answer: u64) -> Written
 // Writes a DATA packet and its user data as one frame to the front of `out`: what `write_frame`
 // does for DATA. For `message`, which writes DATA only; other callers use `write_frame`.
 pub fn write_data(form: Form, packet: Data, user: &[u8], out: &mut [u8]) -> Written
-    ensures value_2 { result ≡ write_of form (Packet.Data packet) (length user.now) (length out.old) }
+    ensures whole { result ≡ write_of form (Packet.Data packet) (length user.now) (length out.old) }
     ensures written { out.new ≡ write_output form (Packet.Data packet) user.now out.old }
     ensures number { written_number result ≡ verdict_number (frame_verdict form (Packet.Data packet) (length user.now) (length out.old)) }
     ensures value { written_bytes result ≡ value_by (frame_verdict form (Packet.Data packet) (length user.now) (length out.old)) (frame_length (seg_of form) (length_of (Packet.Data packet) (length user.now))) }
@@ -555,7 +557,7 @@ pub fn write_data(form: Form, packet: Data, user: &[u8], out: &mut [u8]) -> Writ
 // length. Checks 1, 23, 13, 5; a refusal writes nothing, and bytes beyond the frame keep what they
 // held.
 pub fn write_frame(form: Form, packet: Packet, user: &[u8], out: &mut [u8]) -> Written
-    ensures value_2 { result ≡ write_of form packet (length user.now) (length out.old) }
+    ensures whole { result ≡ write_of form packet (length user.now) (length out.old) }
     ensures written { out.new ≡ write_output form packet user.now out.old }
     ensures number { written_number result ≡ verdict_number (frame_verdict form packet (length user.now) (length out.old)) }
     ensures value { written_bytes result ≡ value_by (frame_verdict form packet (length user.now) (length out.old)) (frame_length (seg_of form) (length_of packet (length user.now))) }
@@ -577,7 +579,7 @@ pub fn write_route(
     extra: &[u8],
     out: &mut [u8],
 ) -> Written
-    ensures value_2 { result ≡ write_route_of form optional initial (length table.now) (length extra.now) (length out.old) }
+    ensures whole { result ≡ write_route_of form optional initial (length table.now) (length extra.now) (length out.old) }
     ensures written { out.new ≡ write_route_output form optional initial table.now extra.now out.old }
     ensures number { written_number result ≡ verdict_number (route_said form optional initial (length table.now) (length extra.now) (length out.old)) }
     ensures value { written_bytes result ≡ value_by (route_said form optional initial (length table.now) (length extra.now) (length out.old)) (frame_length (seg_of form) (route_length (flag optional) (length table.now) (length extra.now))) }

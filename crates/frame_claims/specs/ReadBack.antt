@@ -1,9 +1,9 @@
 -- Demand 2: "A frame written is read back to the same fields, and a frame read is written back to
 -- the same bytes." For every kind of packet of document 01, "Forms and frames", and every long
 -- form: "demand 2's read-back then holds for long forms" (document 02, Q-14); no frame is written
--- in the short form. The claims are about the answers of the calls (`write_of`, `read_of`) and about
--- the lent output (`write_output`); they follow from those by the layout, specs/ByLayout.antt.
--- proofs/ReadBack.antt proves them (`read_back`).
+-- in the short form. The claims are about the answers of the calls (`write_of`, `read_of`) and
+-- about the lent output (`write_output`); they follow from those by the layout,
+-- specs/ByLayout.antt. proofs/ReadBack.antt proves them (`read_back`).
 -- Assumes nothing.
 use Rattle.std.specs.Prelude.{◌≡◌, true, List, ℕ, ◌≤◌, length, take}
 use Rattle.lists.specs.Lists.{over}

@@ -1,11 +1,13 @@
 // The forms of a frame, and how a packet's bytes fill their segments (document 01, "Forms and
 // frames").
+#![tactic(auto)]
+
 ghost use Rattle.std.specs.Prelude.{◌≡◌, ◌≤◌};
 ghost use Rattle.frame_form.specs.Forms.{seg_of, most_of, form_valid, is_long, form_at, is_uplink, form_number, form_code};
 ghost use Rattle.frame_form.specs.Segments.{whole_segments};
 
 // The form of a frame: it gives the size of a segment and the size of the largest packet.
-#[derive(Drop)]
+#[derive(Clone, Copy)]
 pub enum Form {
     ShortUplink,
     LongUplink,

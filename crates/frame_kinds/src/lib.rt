@@ -1,10 +1,12 @@
 // The kinds of packets: their layouts, the number of each, and what names them in a frame (document
 // 01, "Forms and frames", and document 02, Q-4). specs/Kinds.antt has the layouts.
+#![tactic(auto)]
+
 ghost use Rattle.std.specs.Prelude.{◌≡◌, ◌/◌, ◌<◌};
 ghost use Rattle.frame_kinds.specs.Kinds.{kinds, kind_number, kind_at, first_named};
 
 // The kinds of packets but for ROUTE, which has strings in the place of user data.
-#[derive(Drop)]
+#[derive(Clone, Copy)]
 pub enum Kind {
     Data,
     ClearRequest,
@@ -23,7 +25,7 @@ pub enum Kind {
 }
 
 // The kind that a number or a frame's first byte names, if it names one.
-#[derive(Drop)]
+#[derive(Clone, Copy)]
 pub enum Found {
     Known(Kind),
     Route,

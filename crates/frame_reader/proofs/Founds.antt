@@ -1,4 +1,4 @@
--- What the tag of a `Found` tells, where one arm of a match has two of its cases.
+-- What a `Found` is, where one arm of a match has two of its cases.
 -- Assumes nothing.
 use mathlib.Core.Path.{◌≡◌, refl, subst}
 use mathlib.Core.Bool.{true}
@@ -9,6 +9,7 @@ use native.Mathlib.Omega.{arith}
 use types.Run.{OneOf}
 use denote.Enum.Declared.{tag_of}
 use Rattle.frame_form.specs.declared.Form.{Form}
+use Rattle.frame_kinds.specs.declared.Kind.{Kind}
 use Rattle.frame_kinds.specs.Kinds.{route_layout}
 use Rattle.frame_kinds.specs.contracts.Found.{the_type}
 use Rattle.frame_kinds.specs.declared.Found.{Found}
@@ -23,30 +24,30 @@ pub not-unknown : (f : Found) → OneOf (0 ∷ 1 ∷ []) (tag_of the_type f) →
 not-unknown f o e = neither 2 0 1 (λ q. omega (arith, q)) (λ q. omega (arith, q)) (subst (λ (x : Found). OneOf (0 ∷ 1 ∷ []) (tag_of the_type x)) e o)
 
 -- ROUTE, and where nothing was found
-pub other-head : (form : Form) (f : Found) (seg : ℕ) (frame : List ℕ) → OneOf (1 ∷ 2 ∷ []) (tag_of the_type f)
+pub other-head : (form : Form) (f : Found) (seg : ℕ) (frame : List ℕ) → ((k : Kind) → f ≡ Known k → ⊥)
     → head_by 0 (row_by route_layout) frame ≡ head_by seg (row_by (layout_for form f)) frame
 unfolding head_by row_by
 other-head form Route seg frame o = refl
 other-head form Unknown seg frame o = refl
-other-head form (Known k) seg frame o = absurd (neither 0 1 2 (λ q. omega (arith, q)) (λ q. omega (arith, q)) o)
+other-head form (Known k) seg frame o = absurd (o k refl)
 
-pub other-strings : (f : Found) → OneOf (1 ∷ 2 ∷ []) (tag_of the_type f) → true ≡ strings_of f
+pub other-strings : (f : Found) → ((k : Kind) → f ≡ Known k → ⊥) → true ≡ strings_of f
 other-strings Route o = refl
 other-strings Unknown o = refl
-other-strings (Known k) o = absurd (neither 0 1 2 (λ q. omega (arith, q)) (λ q. omega (arith, q)) o)
+other-strings (Known k) o = absurd (o k refl)
 
 pub strings-are : (form : Form) (f : Found) → strings_of f ≡ (layout_for form f).strings
 strings-are form Route = refl
 strings-are form Unknown = refl
 strings-are form (Known k) = refl
 
-pub other-number : (f : Found) → OneOf (1 ∷ 2 ∷ []) (tag_of the_type f) → 12 ≡ found_number f
+pub other-number : (f : Found) → ((k : Kind) → f ≡ Known k → ⊥) → 12 ≡ found_number f
 other-number Route o = refl
 other-number Unknown o = refl
-other-number (Known k) o = absurd (neither 0 1 2 (λ q. omega (arith, q)) (λ q. omega (arith, q)) o)
+other-number (Known k) o = absurd (o k refl)
 
-pub other-places : (form : Form) (f : Found) (h : ℕ) → OneOf (1 ∷ 2 ∷ []) (tag_of the_type f)
+pub other-places : (form : Form) (f : Found) (h : ℕ) → ((k : Kind) → f ≡ Known k → ⊥)
     → spots h 0x0908000000000000 0x0101080000000000 0 ≡ places_by (layout_for form f) h
 other-places form Route h o = refl
 other-places form Unknown h o = refl
-other-places form (Known k) h o = absurd (neither 0 1 2 (λ q. omega (arith, q)) (λ q. omega (arith, q)) o)
+other-places form (Known k) h o = absurd (o k refl)

@@ -1,6 +1,8 @@
 // Frames read into lent bytes, and where a frame is bad (document 01, "Forms and frames"; document
 // 02, Q-5): a form is a number, a packet is ten bytes, an answer is one number. `capi` exports
 // `read` and `fault`; `frame` has the same for typed packets.
+#![tactic(auto)]
+
 ghost use Rattle.std.specs.Prelude.{◌≡◌, true, false, cond, [], ◌∷◌, ◌+◌, ◌*◌, ◌/◌, ◌%◌, ◌^◌, ◌<◌, ◌≤◌, length, drop};
 ghost use Rattle.std.specs.Int.Count.{count_leading_zeros};
 ghost use Rattle.lists.specs.Lists.{over};
@@ -16,7 +18,7 @@ ghost use Rattle.frame_reader.specs.Parts.{layout_for, row_by, length_by_lv, len
 use frame_kinds::{Found, Kind};
 
 // What is seen of a frame's header.
-#[derive(Drop)]
+#[derive(Clone, Copy)]
 struct Head {
     // its length in bytes
     size: usize,

@@ -3,7 +3,7 @@
 -- Assumes nothing.
 use mathlib.Core.Path.{◌≡◌, sym, ap, ◌∙◌, subst}
 use mathlib.Core.Bool.{true, true≢false}
-use mathlib.Core.List.{List, ◌∷◌}
+use mathlib.Core.List.{List, [], ◌∷◌}
 use Prim.Native.Nat.{ℕ, suc, ◌+◌, ◌-◌, ◌*◌, ◌/◌, ◌%◌, ◌^◌, ◌<◌, ◌≤◌}
 use native.Mathlib.Omega.{arith}
 use lib.ListN.{length, take, get_or}
@@ -34,6 +34,7 @@ field-high n p m t w e h =
 -- is wrong in n, it is wrong in every number that has the same bits above those m
 field-front : (fs : List Field) (bit m n p i : ℕ) → in_bytes fs bit ≡ true → bit + total (widths fs) ≡ 8 * suc i + m → n / 2 ^ m ≡ p / 2 ^ m
     → WrongField fs bit (unpack (widths fs) n) i → WrongField fs bit (unpack (widths fs) p) i
+field-front [] bit m n p i b r e h = elim h [ ]
 field-front (fixed w v ∷ fs) bit m n p i b r e (here ne) =
     let q = fixed-parts w v bit fs b in
     let t = total (widths fs) in

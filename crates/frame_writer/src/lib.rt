@@ -1,6 +1,8 @@
 // Frames written from lent bytes (document 01, "Forms and frames"): a form is a number, a packet is
 // ten bytes, an answer is one number. `capi` exports `write`; `frame` has the same for typed
 // packets.
+#![tactic(auto)]
+
 ghost use Rattle.std.specs.Prelude.{◌≡◌, true, cond, [], ◌∷◌, ◌++◌, suc, ◌+◌, ◌-◌, ◌*◌, ◌%◌, ◌^◌, ◌<◌, ◌≤◌, ltb, length, drop, replicate};
 ghost use Rattle.std.proofs.Math.Seq.{paste};
 ghost use Rattle.refusal.specs.Numbers.{verdict_number};
@@ -132,7 +134,7 @@ fn put(form: u8, fits: bool, size: usize, lv: bool, number: u64, user: &[u8], ou
 
 // What the header of a packet is made of: whether every value fits its field, the header's length
 // in bytes, whether it ends in LV, and the header as a number, with LV 0.
-#[derive(Drop)]
+#[derive(Clone, Copy)]
 struct Made {
     fits: bool,
     size: usize,

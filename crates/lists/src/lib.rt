@@ -1,6 +1,8 @@
 // Lists of numbers. specs/ has the definitions that several crates share, proofs/ the laws proved
 // of them. The only code is `copy_in`, which copies bytes into lent memory, and `sums_to`, which
 // checks the sum of a list of lengths.
+#![tactic(auto)]
+
 ghost use Rattle.std.specs.Prelude.{◌≡◌, ◌+◌, ◌≤◌, min, eqb, length, take, drop};
 ghost use Rattle.std.proofs.Math.Seq.{paste};
 ghost use Rattle.lists.specs.Lists.{over};

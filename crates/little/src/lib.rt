@@ -1,6 +1,8 @@
 // How numbers and flags are stored in the bytes that a caller lends. For flags there is a function;
 // for numbers there are only definitions (specs/) and laws (proofs/), which the crates named
 // `.._bytes` use.
+#![tactic(auto)]
+
 ghost use Rattle.std.specs.Prelude.{◌≡◌};
 ghost use Rattle.little.specs.Little.{flag};
 

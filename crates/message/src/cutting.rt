@@ -16,7 +16,7 @@ use sequence::{LinkNumber, PacketNumber};
 
 // The numbers in the header of a message's first frame. SN and PS count up from here; PR and CH are
 // the same on all frames.
-#[derive(Drop)]
+#[derive(Clone, Copy)]
 pub struct Start {
     pub sn: LinkNumber,
     pub ps: PacketNumber,
@@ -26,7 +26,7 @@ pub struct Start {
 }
 
 // What cutting answers: the number of frames and the sum of their bytes, or the refusal.
-#[derive(Drop)]
+#[derive(Clone, Copy)]
 pub enum Cut {
     Frames(usize, usize),
     Refused(Refusal),

@@ -15,7 +15,7 @@ use refusal::{Refusal, Verdict};
 
 // What joining answers: the length of the message; or the refusal, and the position of the fault
 // within all the data.
-#[derive(Drop)]
+#[derive(Clone, Copy)]
 pub enum Joined {
     Bytes(usize),
     Refused(Refusal, usize),
@@ -23,7 +23,7 @@ pub enum Joined {
 
 // The verdict on one frame: its DATA packet, with which the next frame is compared, and the length
 // of its user data; or the refusal, and the position of the fault within the frame.
-#[derive(Drop)]
+#[derive(Clone, Copy)]
 enum Turn {
     GoesOn(MaybeData, usize),
     Refused(Refusal, usize),
@@ -232,7 +232,7 @@ fn copy_users(form: Form, lengths: &[usize], frames: &[u8], out: &mut [u8])
 // `lengths` their lengths. The message is written to the front of `out` after every check has
 // passed; a refusal leaves `out` as it was.
 pub fn join_frames(form: Form, lengths: &[usize], frames: &[u8], out: &mut [u8]) -> Joined
-    ensures value_2 { result ≡ join_of form lengths.now frames.now (length out.old) }
+    ensures whole { result ≡ join_of form lengths.now frames.now (length out.old) }
     ensures written { out.new ≡ join_output form lengths.now frames.now out.old }
     ensures number { joined_number result ≡ checked_number (join_checks form lengths.now frames.now (length out.old)) }
     ensures position { joined_position result ≡ position_of (join_checks form lengths.now frames.now (length out.old)) }

@@ -1,6 +1,8 @@
 // Cutting and joining for callers that are not written in Rattle: a form is given as a number, and
 // an answer is one number, with the refusal number in its low byte and the values above it. `capi`
 // exports these calls.
+#![tactic(auto)]
+
 ghost use Rattle.std.specs.Prelude.{◌≡◌, length};
 ghost use Rattle.frame_form.specs.Forms.{form_at};
 ghost use Rattle.message.specs.Cutting.{cut_of, cut_output, cut_lengths};

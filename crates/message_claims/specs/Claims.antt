@@ -1,9 +1,9 @@
 -- Messages cut and joined: document 01, "Cutting and joining". The claims are about the answers of
--- the calls (`cut_of`, `join_of`) and about the lent lists (`cut_output`, `cut_lengths`, `join_output`).
--- Messages are cut in the long forms only (document 02, Q-14), so what is claimed of cutting is
--- claimed of these; what is claimed of joining needs no cutting and is claimed of every form, about
--- the frames that the message has by the layout (`frames_of`). proofs/Claims.antt proves them
--- (`reassembly`).
+-- the calls (`cut_of`, `join_of`) and about the lent lists (`cut_output`, `cut_lengths`,
+-- `join_output`). Messages are cut in the long forms only (document 02, Q-14), so what is claimed
+-- of cutting is claimed of these; what is claimed of joining needs no cutting and is claimed of
+-- every form, about the frames that the message has by the layout (`frames_of`). proofs/Claims.antt
+-- proves them (`reassembly`).
 -- Assumes nothing.
 use Rattle.std.specs.Prelude.{◌≡◌, Bool, true, false, List, [], ◌∷◌, ℕ, ◌≤◌, length, take}
 use Rattle.lists.specs.Lists.{over}

@@ -1,11 +1,13 @@
 // Refusals and verdicts. Their numbers are those of document 01's table "Refusal numbers" and of
 // document 02's requests; specs/Numbers.antt defines them.
+#![tactic(auto)]
+
 ghost use Rattle.std.specs.Prelude.{◌≡◌, cond, eqb};
 ghost use Rattle.refusal.specs.Numbers.{number_of, refusal_at, verdict_number};
 
 // Why a call is refused. The comment of each case is its row in document 01's table; past 17, what
 // the request of document 02 says.
-#[derive(Drop)]
+#[derive(Clone, Copy)]
 pub enum Refusal {
     // 1: an argument exceeds its field (SN over 63, PS or PR over 15, CH, AM or II over 15, TC over
     // 3, downlink segments not 1 to 16)
@@ -49,7 +51,7 @@ pub enum Refusal {
 
 // Whether a call did what was asked: `Done`, which is 0 in the table, or `Refused`, with the
 // reason.
-#[derive(Drop)]
+#[derive(Clone, Copy)]
 pub enum Verdict {
     Done,
     Refused(Refusal),

@@ -2,20 +2,25 @@
 // standard input and prints its report to standard output. The work is done by the crate
 // `replay_script`; this crate has the buffers and the system calls.
 //
-// A proved program has no exit status. So the last thing that it does is to write a mark to
-// descriptor 3, from which tools/run-proved makes a status: `done` if the whole script was read and
-// the whole report written, `done crlf` if besides a carriage return was seen before a line end,
-// `input` if a read failed, `output` if a write failed. Where descriptor 3 is not open, nothing is
-// written to it.
+// The last thing that it does is to write a mark to descriptor 3, from which tools/run-proved makes
+// a status: `done` if the whole script was read and the whole report written, `done crlf` if
+// besides a carriage return was seen before a line end, `input` if a read failed, `left` if nobody
+// reads the report any more, `output` if another write failed. Where descriptor 3 is no pipe,
+// nothing is written to it.
+#![tactic(auto)]
+
 ghost use Rattle.std.specs.Prelude.{◌≡◌, true, ◌+◌, ◌≤◌, ◌<◌, length};
 ghost use Rattle.replay_script.specs.Feeding.{feed_next};
 
-use libc::{STDIN_FILENO, STDOUT_FILENO};
 use replay_script::Replay;
+use std::fs::OpenOptions;
+use std::io::{ErrorKind, Read, Write};
+use std::os::unix::fs::FileTypeExt;
+use std::{fs, io};
 
 // The state after a read: what is kept of the script so far, whether a carriage return was seen
 // before a line end, whether every read and write succeeded, and how many more reads may be made.
-#[derive(Drop)]
+#[derive(Clone, Copy)]
 struct Turn {
     kept: Replay,
     crlf: bool,
@@ -24,48 +29,48 @@ struct Turn {
 }
 
 // What is kept after some bytes of the script, and whether their report was written.
-#[derive(Drop)]
+#[derive(Clone, Copy)]
 struct Ran {
     kept: Replay,
     good: bool,
 }
 
-fn main() {
-    let mut input = io::large_buffer();
-    let mut out = io::large_buffer();
-    replay(&mut input, &mut out);
+fn main(rt: HostRuntime) {
+    let mut input = [0u8; 65536];
+    let mut out = [0u8; 65536];
+    replay(&rt, &mut input, &mut out);
 }
 
 // Prints the header, and then the report of the input.
-fn replay(input: &mut [u8], out: &mut [u8])
+fn replay(rt: &HostRuntime, input: &mut [u8], out: &mut [u8])
     requires { 65536 ≤ length out.old }
 {
     let header = replay_script::header();
-    if print(&header) {
-        let last = read_all(input, out);
+    if print(rt, &header) {
+        let last = read_all(rt, input, out);
         if last.good {
             let kept = last.kept;
-            end(kept, last.crlf, out);
+            end(rt, kept, last.crlf, out);
         }
     }
 }
 
 // Prints the report of a last line without its line end, and writes the mark of a good end.
-fn end(kept: Replay, crlf: bool, out: &mut [u8]) {
+fn end(rt: &HostRuntime, kept: Replay, crlf: bool, out: &mut [u8]) {
     let last = kept.finish(out);
     let written = last.written;
-    if print(&out[..written]) {
+    if print(rt, &out[..written]) {
         if crlf {
-            mark(b"done crlf\n");
+            mark(rt, b"done crlf\n");
         } else {
-            mark(b"done\n");
+            mark(rt, b"done\n");
         }
     }
 }
 
 // Reads to the end of the input, or until a read or a write fails. A proved loop has to end, and
 // the input may be endless: so the reads are counted down from 2^64 - 1.
-fn read_all(input: &mut [u8], out: &mut [u8]) -> Turn
+fn read_all(rt: &HostRuntime, input: &mut [u8], out: &mut [u8]) -> Turn
     requires { 65536 ≤ length out.old }
 {
     let mut turn = Turn {
@@ -75,38 +80,36 @@ fn read_all(input: &mut [u8], out: &mut [u8]) -> Turn
         reads: u64::MAX,
     };
     while 0 < turn.reads {
-        let next = read_once(turn, input, out);
+        let next = read_once(rt, turn, input, out);
         turn = next;
     }
     turn
 }
 
 // Reads once and runs the bytes read. If there are none, the input has ended.
-fn read_once(turn: Turn, input: &mut [u8], out: &mut [u8]) -> Turn
+fn read_once(rt: &HostRuntime, turn: Turn, input: &mut [u8], out: &mut [u8]) -> Turn
     requires { (0 < turn.reads) × (65536 ≤ length out.old) }
     ensures { result.reads < turn.reads }
 {
     let kept = turn.kept;
-    let got = libc::read(STDIN_FILENO, input);
-    if got < 0 {
-        mark(b"input\n");
-        return stopped(kept, turn.crlf, false);
+    match rt.stdin().read(input) {
+        Ok(0) => stopped(kept, turn.crlf, true),
+        Ok(count) => run_read(rt, turn, &input[..count], out),
+        Err(_) => {
+            mark(rt, b"input\n");
+            stopped(kept, turn.crlf, false)
+        }
     }
-    let count = io::count(got, input);
-    if count == 0 {
-        return stopped(kept, turn.crlf, true);
-    }
-    run_read(turn, &input[..count], out)
 }
 
 // Runs the bytes of one read.
-fn run_read(turn: Turn, bytes: &[u8], out: &mut [u8]) -> Turn
+fn run_read(rt: &HostRuntime, turn: Turn, bytes: &[u8], out: &mut [u8]) -> Turn
     requires { (0 < turn.reads) × (65536 ≤ length out.old) }
     ensures { result.reads < turn.reads }
 {
     let kept = turn.kept;
     let crlf = sees_crlf(turn.crlf, bytes);
-    let ran = run(kept, bytes, out);
+    let ran = run(rt, kept, bytes, out);
     let next = ran.kept;
     if ran.good {
         return Turn {
@@ -149,7 +152,7 @@ fn sees_crlf(before: bool, bytes: &[u8]) -> bool {
 
 // Runs the bytes in parts of at most 64, for whose report 16,384 bytes of the output are enough.
 // Prints the output when fewer are left, and at the end.
-fn run(kept: Replay, bytes: &[u8], out: &mut [u8]) -> Ran
+fn run(rt: &HostRuntime, kept: Replay, bytes: &[u8], out: &mut [u8]) -> Ran
     requires { 65536 ≤ length out.old }
     ensures { result.good ≡ true → result.kept ≡ feed_next kept bytes.now }
 {
@@ -164,7 +167,7 @@ fn run(kept: Replay, bytes: &[u8], out: &mut [u8]) -> Ran
         at = to;
         end = end + fed.written;
         if 49152 < end {
-            if !print(&out[..end]) {
+            if !print(rt, &out[..end]) {
                 return Ran {
                     kept: replay,
                     good: false,
@@ -173,7 +176,7 @@ fn run(kept: Replay, bytes: &[u8], out: &mut [u8]) -> Ran
             end = 0;
         }
     }
-    let good = print(&out[..end]);
+    let good = print(rt, &out[..end]);
     Ran { kept: replay, good }
 }
 
@@ -188,15 +191,33 @@ fn part_end(at: usize, count: usize) -> usize
 // ---- what is written
 
 // Prints bytes. If they cannot be written, writes the mark that says so.
-fn print(bytes: &[u8]) -> bool {
-    if io::write_all(STDOUT_FILENO, bytes) {
-        return true;
+fn print(rt: &HostRuntime, bytes: &[u8]) -> bool {
+    match rt.write_all(bytes) {
+        Ok(()) => true,
+        Err(why) => {
+            unwritten(rt, why);
+            false
+        }
     }
-    mark(b"output\n");
-    false
 }
 
-// Writes the mark, if descriptor 3 is open.
-fn mark(text: &[u8]) {
-    io::write_all(3, text);
+// Writes the mark of a write that failed: nobody reads the report any more, or it cannot be
+// written.
+fn unwritten(rt: &HostRuntime, why: io::Error) {
+    match why.kind() {
+        ErrorKind::BrokenPipe => mark(rt, b"left\n"),
+        _ => mark(rt, b"output\n"),
+    }
+}
+
+// Writes the mark, if descriptor 3 is a pipe. It is opened anew by its name, which would write over
+// a file: so nothing else is opened.
+fn mark(rt: &HostRuntime, text: &[u8]) {
+    if let Ok(found) = fs::metadata(rt, "/dev/fd/3") {
+        if found.file_type().is_fifo() {
+            if let Ok(mut file) = OpenOptions::new().write(true).open(rt, "/dev/fd/3") {
+                let _ = file.write_all(text);
+            }
+        }
+    }
 }

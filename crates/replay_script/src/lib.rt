@@ -1,6 +1,8 @@
 // Turns a replay script into its report (document 01, "The replay program"). The script comes in
 // parts of any size; between two parts a `Replay` keeps the state of the resequencer and the
 // beginning of an unfinished line.
+#![tactic(auto)]
+
 ghost use Rattle.std.specs.Prelude.{◌≡◌, [], ◌∷◌, ◌+◌, ◌*◌, ◌≤◌, ◌<◌, length, take, drop};
 ghost use Rattle.refusal.specs.Numbers.{number_of, verdict_number};
 ghost use Rattle.replay_script.specs.Text.{decimal_in, digit_at, decimal, spaced, all_spaced};
@@ -24,7 +26,7 @@ pub fn header() -> [u8; 24]
 }
 
 // A line of the script, as read.
-#[derive(Drop)]
+#[derive(Clone, Copy)]
 pub enum Line {
     Arrival { sn: u16, ticket: u16 },
     ClockEnd { sn: u16 },
@@ -34,7 +36,7 @@ pub enum Line {
 // What is kept between two parts: the resequencer, and an unfinished line in the first `have` bytes
 // of `line`. No well-formed line has more than 13 bytes, so 14 bytes are enough to see that a
 // longer line is malformed.
-#[derive(Drop)]
+#[derive(Clone, Copy)]
 pub struct Replay {
     pub state: Resequencer,
     pub line: [u8; 14],
@@ -43,7 +45,7 @@ pub struct Replay {
 
 // The answer of `feed`: whether the part was run or refused, how many bytes of report were written,
 // and the `Replay` for the next call.
-#[derive(Drop)]
+#[derive(Clone, Copy)]
 pub struct Fed {
     pub verdict: Verdict,
     pub written: usize,
@@ -52,7 +54,7 @@ pub struct Fed {
 
 // The answer of `finish`: whether the end of the script was run or refused, how many bytes of
 // report were written, and what is kept: after a refusal the `Replay` that was given.
-#[derive(Drop)]
+#[derive(Clone, Copy)]
 pub struct Finished {
     pub verdict: Verdict,
     pub written: usize,
@@ -60,7 +62,7 @@ pub struct Finished {
 }
 
 // The `Replay` after some bytes of the script, and where the report ends in the lent output.
-#[derive(Drop)]
+#[derive(Clone, Copy)]
 struct Step {
     next: Replay,
     end: usize,

@@ -87,7 +87,7 @@ record Words (h c e n : ℕ) : Type 0 where
   on-held : (d : ℕ) → d < 64 → member c d ≡ true → member h d ≡ true
   apart : (d : ℕ) → suc d < 64 → member c d ≡ true → member c (suc d) ≡ false
   none : h ≡ 0 → n ≡ 0
-  in_field_lem : h ≢ 0 → n < 64
+  in_field : h ≢ 0 → n < 64
   top-held : h ≢ 0 → member h e ≡ true
   furthest : h ≢ 0 → (d : ℕ) → d < 64 → e < d → member h d ≡ false
   met : h ≢ 0 → meets_clock (member h) (member c) e ≡ true
@@ -243,8 +243,8 @@ module _ (s : Resequencer) where
       on-held = λ d l k. held_at d l ∙ o.on-held d (sym (clock-at d l) ∙ k);
       apart = λ d l k. clock-at (suc d) l ∙ o.apart d (sym (clock-at d (omega arith)) ∙ k);
       none = λ z. o.idle (none-held fit z);
-      in_field = in_field_lem;
-      top-held = λ z. held_at e e-lt ∙ ap (is_held s) (number-ahead s s.hsnr.0 (in_field_lem z)) ∙ o.hsnr-held (some-held z);
+      in_field = in_field;
+      top-held = λ z. held_at e e-lt ∙ ap (is_held s) (number-ahead s s.hsnr.0 (in_field z)) ∙ o.hsnr-held (some-held z);
       furthest = λ z d l k. held_at d l ∙ not-held d l (λ q. omega (arith, o.furthest (some-held z) d l q));
       met = λ z. same_meets ∙ o.clock-met (some-held z);
     }
@@ -260,8 +260,8 @@ module _ (s : Resequencer) where
         some-held : h ≢ 0 → s.held ≢ 0
         some-held z y = z (none-turned y)
 
-        in_field_lem : h ≢ 0 → s.hsnr.0 < 64
-        in_field_lem z = elim (dec_lt s.hsnr.0 64) [
+        in_field : h ≢ 0 → s.hsnr.0 < 64
+        in_field z = elim (dec_lt s.hsnr.0 64) [
           | yes a ↦ a
           | no a ↦ absurd (true≢false (sym (o.hsnr-held (some-held z)) ∙ member-past 64 s.held s.hsnr.0 fit (omega arith)))
         ]

@@ -1,5 +1,5 @@
--- Good order as facts about every distance from NESN: `InOrder` holds exactly if the test `in_order`
--- is true.
+-- Good order as facts about every distance from NESN: `InOrder` holds exactly if the test
+-- `in_order` is true.
 -- Assumes nothing.
 use mathlib.Core.Path.{◌≡◌, refl, sym, ap, ◌∙◌, subst}
 use mathlib.Core.Bool.{Bool, true, false, not, ◌&&◌, false≢true}

@@ -80,8 +80,8 @@ clock_below_hsnr s = meets_clock (λ d. is_held s (number_at s d)) (λ d. has_cl
 unfoldable pub tickets_of_held : Resequencer → Bool
 tickets_of_held s = every 64 (λ n. implies (not (is_held s n)) (eqb (ticket_of s n) 0))
 
--- good order: all clauses in document 01's order. `in_field 64` is "NESN at most 63"; the clauses on
--- the furthest held number and its clock apply "if any is held"
+-- good order: all clauses in document 01's order. `in_field 64` is "NESN at most 63"; the clauses
+-- on the furthest held number and its clock apply "if any is held"
 unfoldable pub in_order : Resequencer → Bool
 in_order s =
     hsnr_idle s

@@ -2,6 +2,8 @@
 // sequence number SN, which wraps at 64. Each event takes the state by value and returns the next
 // one. `Numbers` decides what an event does to NESN, HSNR and the two sets; `Resequencer` adds the
 // tickets.
+#![tactic(auto)]
+
 ghost use Rattle.std.specs.Prelude.{◌≡◌, true, [], ◌++◌, ◌+◌, ◌^◌, ◌≤◌, ◌<◌, eqb, length, replicate};
 ghost use Rattle.refusal.specs.Numbers.{verdict_number, check};
 ghost use Rattle.refusal.specs.declared.Refusal.TheVariants.{NotInOrder};
@@ -21,7 +23,7 @@ use wordset::set64;
 // and bit n of `clocks` exactly if its clock runs. `tickets[n]` is the ticket of the held number n.
 // In good order `hsnr` is the held number furthest from NESN, or 0 if nothing is held, and the
 // tickets of numbers not held are 0.
-#[derive(Drop)]
+#[derive(Clone, Copy)]
 pub struct Resequencer {
     pub nesn: LinkNumber,
     pub hsnr: LinkNumber,
@@ -31,7 +33,7 @@ pub struct Resequencer {
 }
 
 // What happened on an arrival or a clock end. A clock end gives `HandedOn` or `Refused`.
-#[derive(Drop)]
+#[derive(Clone, Copy)]
 pub enum Outcome {
     Held,
     HandedOn,
@@ -43,7 +45,7 @@ pub enum Outcome {
 // The answer to an arrival or a clock end: the outcome, the tickets handed on and the next state.
 // The first `count` places of `tickets` are the tickets handed on, in order; the other places are
 // 0.
-#[derive(Drop)]
+#[derive(Clone, Copy)]
 pub struct Answer {
     pub outcome: Outcome,
     pub count: u8,
@@ -54,7 +56,7 @@ pub struct Answer {
 // A state without its tickets. `Resequencer` decides each event on it. It is public, with its
 // calls, for `resequencer_bytes`, which keeps the tickets in lent bytes; it is not meant for other
 // callers and is part of no promise to users.
-#[derive(Drop)]
+#[derive(Clone, Copy)]
 pub struct Numbers {
     pub nesn: LinkNumber,
     pub hsnr: LinkNumber,
@@ -65,7 +67,7 @@ pub struct Numbers {
 // What an arrival or a clock end does to a `Numbers`: the outcome, the next `Numbers`, and by how
 // much NESN went up (`passed`). Public for `resequencer_bytes`, as `Numbers` is; not meant for
 // other callers.
-#[derive(Drop)]
+#[derive(Clone, Copy)]
 pub struct Step {
     pub outcome: Outcome,
     pub next: Numbers,

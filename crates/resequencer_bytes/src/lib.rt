@@ -1,6 +1,8 @@
 // The resequencer on 146 bytes that the caller lends, for callers that are not written in Rattle.
 // The calls and their rules are those of `resequencer` (document 01, "The resequencer");
 // specs/Stored.antt gives the layout of the bytes.
+#![tactic(auto)]
+
 ghost use Rattle.std.specs.Prelude.{◌≡◌, cond, [], ◌∷◌, ◌++◌, ◌+◌, ◌≤◌, ◌<◌, eqb, length, get_or, set, drop, replicate};
 ghost use Rattle.std.proofs.Math.Seq.{paste};
 ghost use Rattle.refusal.specs.Numbers.{verdict_number};

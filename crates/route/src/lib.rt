@@ -1,5 +1,7 @@
 // The table of interrogator codes against ground addresses, and the route lists that change it
 // (document 01, "Interrogators and ground addresses").
+#![tactic(auto)]
+
 ghost use Rattle.std.specs.Prelude.{◌≡◌, false, not, ◌&&◌, [], ◌+◌, ◌<◌, ◌≤◌, eqb, replicate};
 ghost use Rattle.refusal.specs.declared.Refusal.TheVariants.{RouteListMalformed};
 ghost use Rattle.refusal.specs.declared.Verdict.TheVariants.{Refused as RefusedVerdict};
@@ -15,7 +17,7 @@ use wordset::set16;
 
 // For each of the 256 ground addresses the set of the codes II of its interrogators: bit i of
 // `codes[a]` is code i at address a.
-#[derive(Drop)]
+#[derive(Clone, Copy)]
 pub struct Table {
     pub codes: [u16; 256],
 }
@@ -23,7 +25,7 @@ pub struct Table {
 // The answer of `Table::update`. `next` is the table after it, the same table after a refusal. The
 // first `count` places of `lost` hold the addresses that had a code before and have none after,
 // rising; the other places are 0.
-#[derive(Drop)]
+#[derive(Clone, Copy)]
 pub struct Updated {
     pub verdict: Verdict,
     pub next: Table,
@@ -231,7 +233,7 @@ impl Table {
     // Chooses an interrogator for `address` by `route_choice::choose`, which describes the choice
     // and its refusals.
     pub fn choose_for(self, address: u8, last: LastUsed, failed: u16) -> Choice
-        ensures value_2 { result ≡ choose_for self address last failed }
+        ensures whole { result ≡ choose_for self address last failed }
         ensures number { choice_number result ≡ verdict_number (choose_verdict (codes_of self address) last failed) }
         ensures value { choice_code result ≡ value_by (choose_verdict (codes_of self address) last failed) (chosen_code (usable (codes_of self address) failed) last) }
     {

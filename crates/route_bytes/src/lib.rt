@@ -4,6 +4,8 @@
 // 0 and no lent byte has changed. A table that does not have 512 bytes is refused with 14, and
 // fewer than 256 places for the report of an update with 5. specs/Stored.antt defines the layout of
 // the bytes and of the answers.
+#![tactic(auto)]
+
 ghost use Rattle.std.specs.Prelude.{◌≡◌, ◌≤◌, ◌<◌, length, replicate};
 ghost use Rattle.lists.specs.Lists.{over};
 ghost use Rattle.route.specs.Updating.{codes_of};
@@ -125,8 +127,8 @@ pub fn choose(table: &[u8], address: u8, last: u16, failed: u16) -> u32
 }
 
 // The same choice from a set of codes that the caller has. Refuses with 1 if `last` is over 15 and
-// not 65535, then with 8 if `codes` is empty, then with 15 if all of `codes` have failed. The answer
-// is made in each case by itself, which saves a compiled call 7 of 40 instructions.
+// not 65535, then with 8 if `codes` is empty, then with 15 if all of `codes` have failed. The
+// answer is made in each case by itself, which saves a compiled call 7 of 40 instructions.
 pub fn choose_among(codes: u16, last: u16, failed: u16) -> u32
     ensures { result ≡ choose_among_answer codes last failed }
 {

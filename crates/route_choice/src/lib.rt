@@ -1,6 +1,8 @@
 // The choice of an interrogator for a ground address, from the set of codes of that address
 // (document 01, "Interrogators and ground addresses"). A set of codes is a word of 16 bits: bit i
 // is code i.
+#![tactic(auto)]
+
 ghost use Rattle.std.specs.Prelude.{◌≡◌, cond, eqb};
 ghost use Rattle.refusal.specs.Numbers.{verdict_number, value_by};
 ghost use Rattle.route_choice.specs.declared.LastUsed.TheVariants.{Nothing as NoCode};
@@ -10,14 +12,14 @@ use refusal::Refusal;
 use wordset::set16;
 
 // The last-used interrogator code, or none. `choose` refuses a code over 15.
-#[derive(Drop)]
+#[derive(Clone, Copy)]
 pub enum LastUsed {
     Code(u8),
     Nothing,
 }
 
 // The answer of `choose`: the code to use, or the refusal.
-#[derive(Drop)]
+#[derive(Clone, Copy)]
 pub enum Choice {
     Chosen(u8),
     Refused(Refusal),
@@ -25,7 +27,7 @@ pub enum Choice {
 
 // The codes with which a call is cleared, if document 01 gives any: the clearing cause CC, then the
 // diagnostic code DC.
-#[derive(Drop)]
+#[derive(Clone, Copy)]
 pub enum Clearing {
     Codes(u8, u8),
     Nothing,
@@ -83,7 +85,7 @@ fn choose_lowest(codes: u16, failed: u16) -> Choice
 // the lowest one. Refuses with 1 for a last-used code over 15, then with 8 if `codes` is empty,
 // then with 15 if all of `codes` have failed.
 pub fn choose(codes: u16, last: LastUsed, failed: u16) -> Choice
-    ensures value_2 { result ≡ choose_of codes last failed }
+    ensures whole { result ≡ choose_of codes last failed }
     ensures number { choice_number result ≡ verdict_number (choose_verdict codes last failed) }
     ensures value { choice_code result ≡ value_by (choose_verdict codes last failed) (chosen_code (usable codes failed) last) }
 {

@@ -3,16 +3,18 @@
 // wrap at 16 and give permission to send. They are two types, each with its own distance function,
 // so that one is never compared with the other. Every call accepts any u8; `distance_to` and `next`
 // take a number that is too large for its field as its remainder modulo 64 or 16.
+#![tactic(auto)]
+
 ghost use Rattle.std.specs.Prelude.{◌≡◌};
 ghost use Rattle.sequence.specs.Modular.{distance, next};
 ghost use Rattle.sequence.specs.Numbers.{link, packet, in_field};
 
 // A link sequence number: SN.
-#[derive(Drop)]
+#[derive(Clone, Copy)]
 pub struct LinkNumber(pub u8);
 
 // A packet sequence number: PS or PR.
-#[derive(Drop)]
+#[derive(Clone, Copy)]
 pub struct PacketNumber(pub u8);
 
 impl LinkNumber {

@@ -2,6 +2,8 @@
 // its text to `out` starting at index `from`, and returns the index after the text, where the next
 // text starts. If there are fewer bytes from `from` on than its text may have, it writes nothing
 // and returns `from`. It tests the room once; the private functions that write have no test.
+#![tactic(auto)]
+
 ghost use Rattle.std.specs.Prelude.{◌≡◌, true, false, [], ◌∷◌, ◌+◌, ◌≤◌, ◌<◌, length};
 ghost use Rattle.text.specs.Decimal.{digit_at, decimal, spaced};
 ghost use Rattle.text.specs.Writing.{Wrote, Puts};

@@ -37,7 +37,7 @@ first-again = refl
 
 one_by_one_lem : FramesAllowedList one_segment (frames_of one_segment first_numbers many_bytes) (one_by_one 0 65)
     × Complete (frames_of one_segment first_numbers many_bytes) (one_by_one 0 65)
-one_by_one =
+one_by_one_lem =
     subst (λ (n : ℕ). FramesAllowedList one_segment (frames_of one_segment first_numbers many_bytes) (one_by_one 0 n) × Complete (frames_of one_segment first_numbers many_bytes) (one_by_one 0 n)) count
     (transfer.possible one_segment (frames_of one_segment first_numbers many_bytes))
 

@@ -3,11 +3,13 @@
 // out of order, some of them twice; the frames that are handed on are joined again. Every event is
 // printed.
 //
-// A proved program has no exit status. So the last thing that it does is to write a mark to
-// descriptor 3, from which tools/run-proved makes a status: `done` if the whole message was read
-// and all was printed, `refused` if besides the message was too long, `input` if a read failed,
-// `output` if a write failed. Where descriptor 3 is not open, nothing is written to it. `good` is
-// true as long as no read and no write has failed; after that nothing is read or printed.
+// The last thing that it does is to write a mark to descriptor 3, from which tools/run-proved makes
+// a status: `done` if the whole message was read and all was printed, `refused` if besides the
+// message was too long, `input` if a read failed, `left` if nobody reads the report any more,
+// `output` if another write failed. Where descriptor 3 is no pipe, nothing is written to it. `good`
+// is true as long as no read and no write has failed; after that nothing is read or printed.
+#![tactic(auto)]
+
 ghost use Rattle.std.specs.Prelude.{◌≡◌, true, List, [], map, ℕ, ◌+◌, ◌≤◌, ◌<◌, min, length, take};
 ghost use Rattle.lists.specs.Frames.{parts_of};
 ghost use Rattle.frame.specs.Reading.{read_of, sn_in};
@@ -19,16 +21,19 @@ ghost use Rattle.transfer_demo.specs.Kept.{keep_one, keep_all, Holds};
 
 use frame::Read;
 use frame_form::Form;
-use libc::{STDIN_FILENO, STDOUT_FILENO};
 use message::cutting::{Cut, Start};
 use message::joining::Joined;
 use resequencer::{Answer, Outcome, Resequencer};
 use sequence::{LinkNumber, PacketNumber};
+use std::fs::OpenOptions;
+use std::io::{ErrorKind, Read as Reader, Write};
+use std::os::unix::fs::FileTypeExt;
+use std::{fs, io};
 use wordset::set64;
 
 // What happens on the link: the frame at a place of the list arrives; something else arrives, with
 // an SN over 63; or the clock of an SN ends.
-#[derive(Drop)]
+#[derive(Clone, Copy)]
 enum Event {
     Frame(usize),
     Stray(u8),
@@ -36,31 +41,31 @@ enum Event {
 }
 
 // How much has been handed on: the number of frames, and the sum of their bytes.
-#[derive(Drop)]
+#[derive(Clone, Copy)]
 struct Handed {
     frames: usize,
     bytes: usize,
 }
 
-fn main() {
+fn main(rt: HostRuntime) {
     let mut message = [0u8; 4097];
     let mut frames = [0u8; 4592];
     let mut lengths = [0usize; 164];
     let mut good = true;
-    let n = read_all(&mut message, &mut good);
-    carry(&message[..n], &mut frames, &mut lengths, &mut good);
+    let n = read_all(&rt, &mut message, &mut good);
+    carry(&rt, &message[..n], &mut frames, &mut lengths, &mut good);
     if good {
-        mark(b"done\n");
+        mark(&rt, b"done\n");
     }
 }
 
 // Reads until the buffer is full or the input has ended, and returns how many bytes were read.
-fn read_all(message: &mut [u8], good: &mut bool) -> usize
+fn read_all(rt: &HostRuntime, message: &mut [u8], good: &mut bool) -> usize
     ensures { result ≤ length message.old }
 {
     let mut n = 0;
     while n < message.len() {
-        let came = read_some(&mut message[n..], good);
+        let came = read_some(rt, &mut message[n..], good);
         if came == 0 {
             return n;
         }
@@ -70,19 +75,27 @@ fn read_all(message: &mut [u8], good: &mut bool) -> usize
 }
 
 // Reads once: 0 bytes at the end of the input, or if the read failed.
-fn read_some(rest: &mut [u8], good: &mut bool) -> usize
+fn read_some(rt: &HostRuntime, rest: &mut [u8], good: &mut bool) -> usize
     ensures { result ≤ length rest.old }
 {
-    let got = libc::read(STDIN_FILENO, rest);
-    if got < 0 {
-        mark(b"input\n");
-        *good = false;
+    match rt.stdin().read(rest) {
+        Ok(came) => came,
+        Err(_) => {
+            mark(rt, b"input\n");
+            *good = false;
+            0
+        }
     }
-    io::count(got, rest)
 }
 
 // Cuts the message from SN 0 and sends the frames across the link.
-fn carry(message: &[u8], frames: &mut [u8], lengths: &mut [usize], good: &mut bool)
+fn carry(
+    rt: &HostRuntime,
+    message: &[u8],
+    frames: &mut [u8],
+    lengths: &mut [usize],
+    good: &mut bool,
+)
     requires { length lengths.old ≤ 164 }
 {
     let start = Start {
@@ -94,39 +107,39 @@ fn carry(message: &[u8], frames: &mut [u8], lengths: &mut [usize], good: &mut bo
     let cut = message::cutting::cut_message(Form::LongDownlink(3), start, message, frames, lengths);
     match cut {
         Cut::Frames(count, bytes) => {
-            number(message.len(), good);
-            text(b" bytes, frames: ", good);
-            number(count, good);
-            text(b"\n", good);
-            cross(message, &lengths[..count], &frames[..bytes], good);
+            number(rt, message.len(), good);
+            text(rt, b" bytes, frames: ", good);
+            number(rt, count, good);
+            text(rt, b"\n", good);
+            cross(rt, message, &lengths[..count], &frames[..bytes], good);
         }
         Cut::Refused(why) => {
             // the numbers are in range and the lists have room for every message: only 4 is
             // possible
-            text(b"refused ", good);
-            number(why.number() as usize, good);
-            text(b": a message has 4,096 bytes at most\n", good);
-            refuse(good);
+            text(rt, b"refused ", good);
+            number(rt, why.number() as usize, good);
+            text(rt, b": a message has 4,096 bytes at most\n", good);
+            refuse(rt, good);
         }
     }
 }
 
 // Ends a run whose message was refused, with the mark that says so.
-fn refuse(good: &mut bool) {
+fn refuse(rt: &HostRuntime, good: &mut bool) {
     if *good {
-        mark(b"refused\n");
+        mark(rt, b"refused\n");
         *good = false;
     }
 }
 
 // Lets the frames arrive, joins those that are handed on, and prints whether this gives the
 // message.
-fn cross(message: &[u8], lengths: &[usize], frames: &[u8], good: &mut bool)
+fn cross(rt: &HostRuntime, message: &[u8], lengths: &[usize], frames: &[u8], good: &mut bool)
     requires { length lengths.now ≤ 164 }
 {
     let mut received = [0u8; 4592];
     let mut sizes = [0usize; 164];
-    let handed = receive(lengths, frames, &mut received, &mut sizes, good);
+    let handed = receive(rt, lengths, frames, &mut received, &mut sizes, good);
     let count = handed.frames;
     let bytes = handed.bytes;
     let mut joined = [0u8; 4096];
@@ -136,7 +149,7 @@ fn cross(message: &[u8], lengths: &[usize], frames: &[u8], good: &mut bool)
         &received[..bytes],
         &mut joined,
     );
-    tell_joined(answer, message, &joined, good);
+    tell_joined(rt, answer, message, &joined, good);
 }
 
 // ---- the link
@@ -180,6 +193,7 @@ fn happens(event: Event, count: usize) -> bool
 // Goes through all events. The frames that are handed on are stored one after the other in
 // `received`, and their lengths in `sizes`.
 fn receive(
+    rt: &HostRuntime,
     lengths: &[usize],
     frames: &[u8],
     received: &mut [u8],
@@ -202,7 +216,7 @@ fn receive(
         i = i + 1;
         if happens(event, lengths.len()) {
             let answer = answer_to(state, event, lengths, frames);
-            tell(event, answer, good);
+            tell(rt, event, answer, good);
             let more = hand_on(answer, lengths, frames, received, sizes, handed);
             handed = more;
             let next = answer.next;
@@ -336,119 +350,137 @@ fn keep(frame: &[u8], received: &mut [u8], sizes: &mut [usize], kept: Handed) ->
 
 // ---- what is printed
 
-// Writes the mark, if descriptor 3 is open.
-fn mark(text: &[u8]) {
-    io::write_all(3, text);
+// Writes the mark, if descriptor 3 is a pipe. It is opened anew by its name, which would write over
+// a file: so nothing else is opened.
+fn mark(rt: &HostRuntime, text: &[u8]) {
+    if let Ok(found) = fs::metadata(rt, "/dev/fd/3") {
+        if found.file_type().is_fifo() {
+            if let Ok(mut file) = OpenOptions::new().write(true).open(rt, "/dev/fd/3") {
+                let _ = file.write_all(text);
+            }
+        }
+    }
+}
+
+// Writes the mark of a write that failed: nobody reads the report any more, or it cannot be
+// written.
+fn unwritten(rt: &HostRuntime, why: io::Error) {
+    match why.kind() {
+        ErrorKind::BrokenPipe => mark(rt, b"left\n"),
+        _ => mark(rt, b"output\n"),
+    }
 }
 
 // Prints bytes.
-fn text(bytes: &[u8], good: &mut bool) {
+fn text(rt: &HostRuntime, bytes: &[u8], good: &mut bool) {
     if *good {
-        if io::write_all(STDOUT_FILENO, bytes) {
-            return;
+        if let Err(why) = rt.write_all(bytes) {
+            unwritten(rt, why);
+            *good = false;
         }
-        mark(b"output\n");
-        *good = false;
     }
 }
 
 // Prints a number in decimal.
-fn number(n: usize, good: &mut bool) {
-    let mut digits = [0u8; 20];
-    let count = io::decimal(n as u64, &mut digits);
-    text(&digits[..count], good);
+fn number(rt: &HostRuntime, n: usize, good: &mut bool) {
+    if *good {
+        if let Err(why) = rt.print(n) {
+            unwritten(rt, why);
+            *good = false;
+        }
+    }
 }
 
 // Prints one number of a list.
-fn listed(n: usize, good: &mut bool) {
-    text(b" ", good);
-    number(n, good);
+fn listed(rt: &HostRuntime, n: usize, good: &mut bool) {
+    text(rt, b" ", good);
+    number(rt, n, good);
 }
 
 // Prints one event: what arrived or ended, the outcome, and the held numbers and running clocks
 // afterwards.
-fn tell(event: Event, answer: Answer, good: &mut bool) {
+fn tell(rt: &HostRuntime, event: Event, answer: Answer, good: &mut bool) {
     match event {
         Event::Frame(place) => {
-            text(b"frame ", good);
-            number(place, good);
-            text(b" SN ", good);
-            number(place % 64, good);
+            text(rt, b"frame ", good);
+            number(rt, place, good);
+            text(rt, b" SN ", good);
+            number(rt, place % 64, good);
         }
         Event::Stray(sn) => {
-            text(b"stray SN ", good);
-            number(sn as usize, good);
+            text(rt, b"stray SN ", good);
+            number(rt, sn as usize, good);
         }
         Event::ClockEnd(sn) => {
-            text(b"clock end ", good);
-            number(sn as usize, good);
+            text(rt, b"clock end ", good);
+            number(rt, sn as usize, good);
         }
     }
-    tell_outcome(answer, good);
+    tell_outcome(rt, answer, good);
     let next = answer.next;
-    tell_set(b"; held", next.held, good);
-    tell_set(b"; clocks", next.clocks, good);
-    text(b"\n", good);
+    tell_set(rt, b"; held", next.held, good);
+    tell_set(rt, b"; clocks", next.clocks, good);
+    text(rt, b"\n", good);
 }
 
 // Prints the numbers of a set.
-fn tell_set(title: &[u8], set: u64, good: &mut bool) {
-    text(title, good);
+fn tell_set(rt: &HostRuntime, title: &[u8], set: u64, good: &mut bool) {
+    text(rt, title, good);
     if set == 0 {
-        text(b" -", good);
+        text(rt, b" -", good);
     }
     let mut left = set;
     while left != 0 {
-        listed(set64::lowest(left) as usize, good);
+        listed(rt, set64::lowest(left) as usize, good);
         left = set64::without_lowest(left);
     }
 }
 
 // Prints the outcome of an event: what is handed on, or why nothing is.
-fn tell_outcome(answer: Answer, good: &mut bool) {
+fn tell_outcome(rt: &HostRuntime, answer: Answer, good: &mut bool) {
     let outcome = answer.outcome;
     match outcome {
         Outcome::HandedOn => {
-            text(b": hands on", good);
-            tell_tickets(answer, good);
+            text(rt, b": hands on", good);
+            tell_tickets(rt, answer, good);
         }
-        Outcome::Held => text(b": early", good),
-        Outcome::Old => text(b": old", good),
-        Outcome::Duplicate => text(b": duplicate", good),
+        Outcome::Held => text(rt, b": early", good),
+        Outcome::Old => text(rt, b": old", good),
+        Outcome::Duplicate => text(rt, b": duplicate", good),
         Outcome::Refused(why) => {
-            text(b": refused ", good);
-            number(why.number() as usize, good);
+            text(rt, b": refused ", good);
+            number(rt, why.number() as usize, good);
         }
     }
 }
 
 // Prints the places of the frames that are handed on, which are their tickets.
-fn tell_tickets(answer: Answer, good: &mut bool) {
+fn tell_tickets(rt: &HostRuntime, answer: Answer, good: &mut bool) {
     let tickets = answer.tickets;
     let count = count_handed(answer);
     let mut i = 0;
     while i < count {
-        listed(tickets[i] as usize, good);
+        listed(rt, tickets[i] as usize, good);
         i = i + 1;
     }
 }
 
 // Prints whether the message that was joined is the one that was sent.
-fn tell_joined(answer: Joined, message: &[u8], joined: &[u8], good: &mut bool) {
+fn tell_joined(rt: &HostRuntime, answer: Joined, message: &[u8], joined: &[u8], good: &mut bool) {
     match answer {
         Joined::Bytes(n) => {
-            text(b"joined ", good);
-            number(n, good);
+            text(rt, b"joined ", good);
+            number(rt, n, good);
             if n == message.len() && is_front(message, joined) {
-                text(b" bytes: the message\n", good);
+                text(rt, b" bytes: the message\n", good);
             } else {
-                text(b" bytes: not the message\n", good);
+                text(rt, b" bytes: not the message\n", good);
             }
         }
         Joined::Refused(why, _at) => {
-            text(b"not joined: refused ", good);
-            number(why.number() as usize, good);
-            text(b"\n", good);
+            text(rt, b"not joined: refused ", good);
+            number(rt, why.number() as usize, good);
+            text(rt, b"\n", good);
         }
     }
 }

@@ -10,7 +10,7 @@ use sequence::PacketNumber;
 
 // A receiving end: the expected PS; the first-packet mark, which stands until a PS is accepted
 // (refused packets leave it); and the count of packets not yet told.
-#[derive(Drop)]
+#[derive(Clone, Copy)]
 pub struct Receiver {
     pub expected: PacketNumber,
     pub first: bool,
@@ -18,28 +18,28 @@ pub struct Receiver {
 }
 
 // The answer to a received PS: accepted, with whether PR is now due, or refused.
-#[derive(Drop)]
+#[derive(Clone, Copy)]
 pub enum Receipt {
     Taken { due: bool },
     Refused(Refusal),
 }
 
 // The answer to `receive`, and the next state of the end.
-#[derive(Drop)]
+#[derive(Clone, Copy)]
 pub struct Received {
     pub answer: Receipt,
     pub next: Receiver,
 }
 
 // The PR to send, or why the call is refused.
-#[derive(Drop)]
+#[derive(Clone, Copy)]
 pub enum Telling {
     Tell(PacketNumber),
     Refused(Refusal),
 }
 
 // The answer to `tell`, and the next state of the end.
-#[derive(Drop)]
+#[derive(Clone, Copy)]
 pub struct Told {
     pub answer: Telling,
     pub next: Receiver,
@@ -141,7 +141,7 @@ impl Receiver {
     // expected PS is accepted: the mark falls, the expected PS goes up by one modulo 16, the count
     // of packets not yet told by one but never over 8, and at 8 the answer says that PR is due.
     pub fn receive(self, ps: PacketNumber) -> Received
-        ensures value_2 { result ≡ receive_of self ps.0 }
+        ensures whole { result ≡ receive_of self ps.0 }
         ensures number { receipt_number result.answer ≡ verdict_number (receive_verdict self ps.0) }
         ensures value { receipt_due result.answer ≡ flag_by (receive_verdict self ps.0) (due_after self) }
     {
@@ -169,7 +169,7 @@ impl Receiver {
     // Answers the PR to send now, which is the expected PS, and sets the count of packets not yet
     // told to 0; the mark stays as it is. Refused with 14.
     pub fn tell(self) -> Told
-        ensures value_2 { result ≡ tell_of self }
+        ensures whole { result ≡ tell_of self }
         ensures number { telling_number result.answer ≡ verdict_number (tell_verdict self) }
         ensures value { telling_pr result.answer ≡ value_by (tell_verdict self) self.expected.0 }
     {

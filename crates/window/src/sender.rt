@@ -11,7 +11,7 @@ use sequence::PacketNumber;
 
 // A sending end: the lower edge of the window; the next PS; and the mark that an RNR holds the end
 // off, so that nothing is granted, however far the window is open.
-#[derive(Drop)]
+#[derive(Clone, Copy)]
 pub struct Sender {
     pub edge: PacketNumber,
     pub ps: PacketNumber,
@@ -19,21 +19,21 @@ pub struct Sender {
 }
 
 // Permission to send: the PS of the next packet, or why the call is refused.
-#[derive(Drop)]
+#[derive(Clone, Copy)]
 pub enum Grant {
     Granted(PacketNumber),
     Refused(Refusal),
 }
 
 // The answer to `send`, and the next state of the end.
-#[derive(Drop)]
+#[derive(Clone, Copy)]
 pub struct Sent {
     pub answer: Grant,
     pub next: Sender,
 }
 
 // The answer to a received PR, whichever packet carries it, and the next state of the end.
-#[derive(Drop)]
+#[derive(Clone, Copy)]
 pub struct Acknowledged {
     pub verdict: Verdict,
     pub next: Sender,
@@ -95,7 +95,7 @@ impl Sender {
     // from the edge to the next PS is at most 14 and no RNR holds the end off; the next PS then
     // goes up by one modulo 16.
     pub fn send(self) -> Sent
-        ensures value_2 { result ≡ send_of self }
+        ensures whole { result ≡ send_of self }
         ensures number { grant_number result.answer ≡ verdict_number (send_verdict self) }
         ensures value { grant_ps result.answer ≡ value_by (send_verdict self) self.ps.0 }
     {

@@ -5,6 +5,8 @@
 // one number, the refusal number (0 for done) plus 256 times the value that its comment names; a
 // refusal has the value 0 and writes nothing. 14 refuses bytes of another length, a mark over 1,
 // and an end that is not in good order. specs/Stored.antt defines the layout and each answer.
+#![tactic(auto)]
+
 ghost use Rattle.std.specs.Prelude.{◌≡◌, ◌≢◌, length, get_or};
 ghost use Rattle.refusal.specs.Numbers.{verdict_number};
 ghost use Rattle.window.specs.History.{by_data, ready, not_ready, reject};

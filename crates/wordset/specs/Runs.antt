@@ -54,8 +54,8 @@ pub record IsFirst (k w s n : ℕ) : Type 0 where
   pub none_before : (j : ℕ) → j < steps → member w ((s + j) % k) ≡ false
 
 pub record FirstLaw (k : ℕ) : Type 0 where
-  -- in a word that is not 0, as many steps as the word rotated down by s has trailing zeros lead from
-  -- s to the first one
+  -- in a word that is not 0, as many steps as the word rotated down by s has trailing zeros lead
+  -- from s to the first one
   pub counted : (w s : ℕ) → 0 < w → w < 2 ^ k → IsFirst k w s ((s + count_trailing_zeros k (rotate k w s)) % k)
   -- no other place is the first one
   pub only : (w s n : ℕ) → IsFirst k w s n → n ≡ first_from k w s

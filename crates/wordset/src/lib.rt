@@ -3,5 +3,7 @@
 // the word has no bit for is in no set. Both modules have the same definitions (specs/Sets.antt),
 // which take the width of the word as a parameter, and the same laws prove both. They serve the
 // crates of the resequencer and of routes.
+#![tactic(auto)]
+
 pub mod set16;
 pub mod set64;

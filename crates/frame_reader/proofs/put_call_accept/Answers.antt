@@ -1,0 +1,19 @@
+-- `frame_reader::put_call_accept` meets its contract: the direction decides.
+-- Assumes nothing.
+use mathlib.Core.Path.{sym, ap, ◌∙◌}
+use mathlib.Core.Bool.{Bool}
+use Rattle.frame_kinds.specs.declared.Kind.TheVariants.{CallAccept}
+use Rattle.frame_kinds.specs.Kinds.{layout_in}
+use Rattle.frame_reader.specs.Parts.{places_by}
+use Rattle.frame_reader.proofs.Rows.{call-accept-ground}
+use Rattle.frame_reader.proofs.put_call_accept.Goals as goal
+
+pub returns-then-is_uplink_at : goal.returns-then-is_uplink_at
+returns-then-is_uplink_at c =
+    let h = c.args.h in
+    c.spread.ensures ∙ call-accept-ground h ∙ ap (λ (up : Bool). places_by (layout_in up CallAccept) h) (sym (sym c.is_uplink_at.ensures ∙ c.if-is_uplink_at.true))
+
+pub returns-else-is_uplink_at : goal.returns-else-is_uplink_at
+returns-else-is_uplink_at c =
+    let h = c.args.h in
+    c.spread-else-is_uplink_at.ensures ∙ ap (λ (up : Bool). places_by (layout_in up CallAccept) h) (sym (sym c.is_uplink_at.ensures ∙ c.if-is_uplink_at.false))

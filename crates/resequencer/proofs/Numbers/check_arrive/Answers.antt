@@ -1,0 +1,23 @@
+-- `resequencer::Numbers::check_arrive` meets its contract: each way out knows the tests that led
+-- there.
+-- Assumes nothing.
+use mathlib.Core.Path.{sym, ◌∙◌}
+use Rattle.resequencer.specs.Events.{arrive_verdict}
+use Rattle.resequencer.proofs.Numbers.check_arrive.Goals as goal
+use Rattle.resequencer.proofs.Numbers.check_arrive.Goals.{else-fits-via-then-fits+else-in_order, else-fits-via-else-fits}
+
+pub returns-then-in_field : goal.returns-then-in_field
+unfolding arrive_verdict
+returns-then-in_field c = simp (c.if-fits.true, sym c.in_order.ensures ∙ c.if-in_order.true, sym c.in_field.ensures ∙ c.if-in_field.true)
+
+pub returns-else-in_field : goal.returns-else-in_field
+unfolding arrive_verdict
+returns-else-in_field c = simp (c.if-fits.true, sym c.in_order.ensures ∙ c.if-in_order.true, sym c.in_field.ensures ∙ c.if-in_field.false)
+
+pub returns-else-fits : goal.returns-else-fits
+unfolding arrive_verdict
+returns-else-fits c =
+    elim c.else-fits.branch [
+      | else-fits-via-then-fits+else-in_order w ↦ simp (w.if-fits.true, sym w.in_order.ensures ∙ w.if-in_order.false)
+      | else-fits-via-else-fits w ↦ simp w.if-fits.false
+    ]

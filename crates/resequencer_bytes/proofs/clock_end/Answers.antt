@@ -1,0 +1,56 @@
+-- `resequencer_bytes::clock_end` meets its contract: bytes that are no state are refused, then too
+-- few places; else the step of the numbers determines the whole answer.
+-- Assumes nothing.
+use mathlib.Core.Path.{◌≡◌, refl, sym, ◌∙◌, subst}
+use lib.ListN.{length, take}
+use lib.Seq.{length-take-le}
+use Rattle.resequencer.specs.declared.Step.{Step}
+use Rattle.resequencer.specs.Numbers.{StepFits}
+use Rattle.resequencer.proofs.Steps.{end_fits, end-told}
+use Rattle.resequencer_bytes.specs.Stored.{state_in}
+use Rattle.resequencer_bytes.proofs.Steps.{clock-tells}
+use Rattle.resequencer_bytes.proofs.Checking.{end-no-state, end-few, end-done}
+use Rattle.refusal.proofs.Clauses.{three}
+use Rattle.resequencer_bytes.proofs.clock_end.Goals as goal
+
+pub returns-then-state-ne146 : goal.returns-then-state-ne146
+returns-then-state-ne146 c =
+    three (λ p q r. record { value = p; state_after = q; tickets_after = r })
+    (let a = c.args in end-no-state a.state.now a.tickets.now a.sn _ c.if-state-ne146.true)
+
+pub returns-then-tickets-lt32 : goal.returns-then-tickets-lt32
+returns-then-tickets-lt32 c =
+    three (λ p q r. record { value = p; state_after = q; tickets_after = r })
+    (let a = c.args in
+    end-few a.state.now a.tickets.now a.sn c.if-tickets-lt32.true _ _ c.short_answer.ensures)
+
+pub slice_bounds-answer-end : goal.slice_bounds-answer-end
+slice_bounds-answer-end c = c.if-tickets-lt32.false
+
+pub slice_bounds-answer-end-2 : goal.slice_bounds-answer-end-2
+slice_bounds-answer-end-2 c =
+    let lent : length (take 32 c.args.tickets.now) ≡ 32 = length-take-le 32 c.args.tickets.now c.if-tickets-lt32.false in sym lent
+
+pub answer-requires : goal.answer-requires
+answer-requires c =
+    let lent : length (take 32 c.args.tickets.now) ≡ 32 = length-take-le 32 c.args.tickets.now c.if-tickets-lt32.false in
+    let a = c.args in
+    let m = c.numbers_in-numbers.ensures in
+    let w = clock-tells (state_in a.state.now) _ c.tickets_in_order-fits.ensures _ m a.sn _ c.clock_end-step.ensures.value in
+    record {
+      size = c.if-state-ne146.false;
+      places = lent;
+      numbers-are = m;
+      fits = subst (λ (s : Step). StepFits c.numbers_in-numbers.result.nesn.0 s 0 a.sn 0) (sym c.clock_end-step.ensures.value) (end_fits _ _ a.sn);
+      order = w.0;
+      stays = λ h k. w.1 h k ∙ sym m;
+    }
+
+pub returns : goal.returns
+returns c =
+    three (λ p q r. record { value = p; state_after = q; tickets_after = r })
+    (let lent : length (take 32 c.args.tickets.now) ≡ 32 = length-take-le 32 c.args.tickets.now c.if-tickets-lt32.false in
+    let a = c.args in
+    end-done a.state.now a.tickets.now a.sn c.if-state-ne146.false c.if-tickets-lt32.false _ _ _ _ (c.answer.auto.out ∙ lent)
+    (end-told (state_in a.state.now) _ _ a.sn 0 _ c.numbers_in-numbers.ensures _ c.tickets_in_order-fits.ensures c.clock_end-step.ensures.value refl)
+    (c.answer.ensures.value, (c.answer.ensures.state_after, c.answer.ensures.out_after)))
