@@ -15,6 +15,3 @@ five f x = f x.0 x.1.0 x.1.1.0 x.1.1.1.0 x.1.1.1.1
 
 pub six : {A B C D E F R : Type 0} → (A → B → C → D → E → F → R) → A × (B × (C × (D × (E × F)))) → R
 six f x = f x.0 x.1.0 x.1.1.0 x.1.1.1.0 x.1.1.1.1.0 x.1.1.1.1.1
-
-pub seven : {A B C D E F G R : Type 0} → (A → B → C → D → E → F → G → R) → A × (B × (C × (D × (E × (F × G))))) → R
-seven f x = f x.0 x.1.0 x.1.1.0 x.1.1.1.0 x.1.1.1.1.0 x.1.1.1.1.1.0 x.1.1.1.1.1.1

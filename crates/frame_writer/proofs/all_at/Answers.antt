@@ -8,15 +8,9 @@ use Rattle.frame_writer.proofs.all_at.Goals as goal
 -- from each call, two places back lies the one before
 pub returns : goal.returns
 returns c =
-    two (λ p q. record { value = p; few = q })
-    (let h = c in
-    let g = h in
-    let f = g in
-    let e = f in
-    let d = e in
-    let c = d in (
+    two (λ p q. record { value = p; few = q }) (
       nine-sums c.args.shifts c.args.widths c.args.places.now c.requires _ _ _ _ _ _ _ _ _
-          c.at.ensures.value c.at-2.ensures.value c.at-3.ensures.value d.at-4.ensures.value e.at-5.ensures.value
-          f.at-6.ensures.value g.at-7.ensures.value h.at-8.ensures.value c.at-9.ensures.value,
-      omega (arith, c.at.ensures.few, c.at-2.ensures.few, c.at-3.ensures.few, d.at-4.ensures.few, e.at-5.ensures.few, f.at-6.ensures.few, g.at-7.ensures.few, h.at-8.ensures.few, c.at-9.ensures.few),
-    ))
+          c.at.ensures.value c.at-2.ensures.value c.at-3.ensures.value c.at-4.ensures.value c.at-5.ensures.value
+          c.at-6.ensures.value c.at-7.ensures.value c.at-8.ensures.value c.at-9.ensures.value,
+      omega (arith, c.at.ensures.few, c.at-2.ensures.few, c.at-3.ensures.few, c.at-4.ensures.few, c.at-5.ensures.few, c.at-6.ensures.few, c.at-7.ensures.few, c.at-8.ensures.few, c.at-9.ensures.few),
+    )

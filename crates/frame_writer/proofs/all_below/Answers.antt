@@ -6,12 +6,6 @@ use Rattle.frame_writer.proofs.all_below.Goals as goal
 -- from each call, two places back lies the one before
 pub returns : goal.returns
 returns c =
-    let h = c in
-    let g = h in
-    let f = g in
-    let e = f in
-    let d = e in
-    let c = d in
     nine-tests c.args.widths c.args.places.now c.requires _ _ _ _ _ _ _ _ _
-    c.below.ensures c.below-2.ensures c.below-3.ensures d.below-4.ensures e.below-5.ensures
-    f.below-6.ensures g.below-7.ensures h.below-8.ensures c.below-9.ensures
+    c.below.ensures c.below-2.ensures c.below-3.ensures c.below-4.ensures c.below-5.ensures
+    c.below-6.ensures c.below-7.ensures c.below-8.ensures c.below-9.ensures

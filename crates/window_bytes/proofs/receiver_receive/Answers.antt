@@ -24,7 +24,6 @@ returns-in-Taken c =
     two (λ p q. record { value = p; state_after = q })
     (let encoded : is_receiver c.args.state.now ≡ true = sym c.is_receiver.ensures ∙ c.if-is_receiver.true in
     let received : c.receive-received.result ≡ receive_of (receiver_in c.args.state.now) c.args.ps = c.receive-received.ensures.whole ∙ ap (λ (r : Receiver). receive_of r c.args.ps) c.receiver_in-end.ensures in
-    let r = c in
     taken _ _ encoded _ received _ c.in-Taken.is _ c.flag.ensures _ c.put_receiver.ensures)
 
 pub returns-in-Refused : goal.returns-in-Refused
@@ -32,7 +31,6 @@ returns-in-Refused c =
     two (λ p q. record { value = p; state_after = q })
     (let encoded : is_receiver c.args.state.now ≡ true = sym c.is_receiver.ensures ∙ c.if-is_receiver.true in
     let received : c.receive-received.result ≡ receive_of (receiver_in c.args.state.now) c.args.ps = c.receive-received.ensures.whole ∙ ap (λ (r : Receiver). receive_of r c.args.ps) c.receiver_in-end.ensures in
-    let r = c in
     not_taken _ _ encoded _ received _ c.in-Refused.is _ c.number.ensures)
 
 pub returns-else-is_receiver : goal.returns-else-is_receiver
