@@ -1,145 +1,120 @@
-// The calls themselves, by the letters that the table in `line` gives them.
-ghost use Rattle.std.specs.Prelude.{◌<◌};
+// The calls themselves, and what they answer.
+use crate::arguments::{Arguments, Numbers};
+use crate::elements;
+use crate::table::Call;
+use std::fmt;
 
-use crate::{Values, elements};
-
-// Makes a call with the lists and the numbers of its line.
-pub fn make(call: u8, a: &mut [u8], b: &mut [u8], c: &mut [u8], values: &Values) -> u64 {
-    if call < b'F' {
-        return count(call, values) as u64;
-    }
-    if call < b'L' {
-        return look(call, a, values) as u64;
-    }
-    if call < b'T' {
-        return change(call, a, small(values, 2)) as u64;
-    }
-    several(call, a, b, c, values)
+// What a call answers: the number itself, a value above a refusal number, or a position.
+#[derive(Clone, Copy, Debug, PartialEq, Eq)]
+pub enum Answer {
+    Number(u8),
+    Code(u32),
+    LongCode(u64),
+    Position(usize),
 }
 
-// An argument that is a number of one byte. Arguments count from 1.
-fn small(values: &Values, argument: usize) -> u8
-    requires { argument < 10 }
-{
-    (large(values, argument) % 256) as u8
+impl fmt::Display for Answer {
+    fn fmt<W: fmt::Write>(&self, f: &mut fmt::Formatter<W>) -> fmt::Result {
+        match self {
+            Answer::Number(number) => write!(f, "{number:02X}"),
+            Answer::Code(code) => write!(f, "{code:08X}"),
+            Answer::LongCode(code) => write!(f, "{code:016X}"),
+            Answer::Position(position) => write!(f, "at {position}"),
+        }
+    }
 }
 
-// An argument that is a number of two bytes.
-fn large(values: &Values, argument: usize) -> u16
-    requires { argument < 10 }
-{
-    (values[argument + 1] % 65536) as u16
-}
-
-// The calls on numbers alone.
-fn count(call: u8, values: &Values) -> u32 {
-    let x = small(values, 1);
-    let y = small(values, 2);
+// Makes a call with the arguments of its line.
+pub fn make(call: Call, arguments: &mut Arguments) -> Answer {
+    let Arguments { numbers, a, b, c } = arguments;
+    let (n, a, b, c) = (*numbers, a.bytes_mut(), b.bytes_mut(), c.bytes_mut());
     match call {
-        b'A' => capi::pk_link_distance(x, y) as u32,
-        b'B' => capi::pk_link_next(x) as u32,
-        b'C' => capi::pk_packet_distance(x, y) as u32,
-        b'D' => capi::pk_packet_next(x) as u32,
-        _ => capi::pk_choose(large(values, 1), large(values, 2), large(values, 3)),
+        Call::LinkDistance => Answer::Number(capi::pk_link_distance(n.small(0), n.small(1))),
+        Call::LinkNext => Answer::Number(capi::pk_link_next(n.small(0))),
+        Call::PacketDistance => Answer::Number(capi::pk_packet_distance(n.small(0), n.small(1))),
+        Call::PacketNext => Answer::Number(capi::pk_packet_next(n.small(0))),
+        Call::Choose => Answer::Code(capi::pk_choose(n.large(0), n.large(1), n.large(2))),
+        Call::SenderFresh => Answer::Code(capi::pk_sender_fresh(a)),
+        Call::SenderInOrder => Answer::Code(capi::pk_sender_in_order(a)),
+        Call::SenderSend => Answer::Code(capi::pk_sender_send(a)),
+        Call::SenderAcknowledge => Answer::Code(capi::pk_sender_acknowledge(a, n.small(1))),
+        Call::SenderReady => Answer::Code(capi::pk_sender_ready(a, n.small(1))),
+        Call::SenderNotReady => Answer::Code(capi::pk_sender_not_ready(a, n.small(1))),
+        Call::SenderReject => Answer::Code(capi::pk_sender_reject(a, n.small(1))),
+        Call::ReceiverFresh => Answer::Code(capi::pk_receiver_fresh(a)),
+        Call::ReceiverInOrder => Answer::Code(capi::pk_receiver_in_order(a)),
+        Call::ReceiverReceive => Answer::Code(capi::pk_receiver_receive(a, n.small(1))),
+        Call::ReceiverTell => Answer::Code(capi::pk_receiver_tell(a)),
+        Call::ResequencerFresh => Answer::Code(capi::pk_resequencer_fresh(a)),
+        Call::ResequencerInOrder => Answer::Code(capi::pk_resequencer_in_order(a)),
+        Call::ResequencerArrive => arrive(a, c, n),
+        Call::ResequencerClockEnd => clock_end(a, c, n),
+        Call::FrameWrite => Answer::LongCode(capi::pk_frame_write(n.small(0), a, b, c)),
+        Call::FrameRead => Answer::LongCode(capi::pk_frame_read(n.small(0), a, b)),
+        Call::FrameFault => Answer::Position(capi::pk_frame_fault(n.small(0), a)),
+        Call::RouteWrite => route_write(a, b, c, n),
+        Call::MessageCut => cut(a, b, c, n),
+        Call::MessageJoin => join(c, a, b, n),
+        Call::MessageFault => fault(c, a, n),
+        Call::TableEmpty => Answer::Code(capi::pk_table_empty(a)),
+        Call::TableCodes => Answer::Code(capi::pk_table_codes(a, n.small(1))),
+        Call::TableCount => Answer::Code(capi::pk_table_count(a, n.small(1))),
+        Call::TableChoose => table_choose(a, n),
+        Call::TableUpdate => Answer::Code(capi::pk_table_update(a, b, c)),
     }
 }
 
-// The calls that look at a state.
-fn look(call: u8, state: &[u8], values: &Values) -> u32 {
-    let address = small(values, 2);
-    match call {
-        b'F' => capi::pk_sender_in_order(state),
-        b'G' => capi::pk_receiver_in_order(state),
-        b'H' => capi::pk_resequencer_in_order(state),
-        b'I' => capi::pk_table_codes(state, address),
-        b'J' => capi::pk_table_count(state, address),
-        _ => capi::pk_table_choose(state, address, large(values, 3), large(values, 4)),
-    }
-}
-
-// The calls that change a state, with no other list.
-fn change(call: u8, state: &mut [u8], number: u8) -> u32 {
-    match call {
-        b'L' => capi::pk_sender_fresh(state),
-        b'M' => capi::pk_sender_send(state),
-        b'N' => capi::pk_sender_acknowledge(state, number),
-        b'O' => capi::pk_receiver_fresh(state),
-        b'P' => capi::pk_receiver_receive(state, number),
-        b'Q' => capi::pk_receiver_tell(state),
-        b'R' => capi::pk_resequencer_fresh(state),
-        _ => capi::pk_table_empty(state),
-    }
-}
-
-// The calls for RR, RNR and REJECT.
-fn flow(call: u8, state: &mut [u8], pr: u8) -> u32 {
-    match call {
-        b'c' => capi::pk_sender_ready(state, pr),
-        b'd' => capi::pk_sender_not_ready(state, pr),
-        _ => capi::pk_sender_reject(state, pr),
-    }
-}
-
-// The calls with several lists, and those with letters in lower case.
-fn several(call: u8, a: &mut [u8], b: &mut [u8], c: &mut [u8], values: &Values) -> u64 {
-    match call {
-        b'T' | b'U' => release(call, a, c, values) as u64,
-        b'V' => capi::pk_frame_write(small(values, 1), a, b, c),
-        b'W' => capi::pk_frame_read(small(values, 1), a, b),
-        b'X' | b'Y' | b'b' => message(call, a, b, c, values),
-        b'a' => capi::pk_frame_fault(small(values, 1), a) as u64,
-        b'c' | b'd' | b'e' => flow(call, a, small(values, 2)) as u64,
-        b'f' => route(a, b, c, values),
-        _ => capi::pk_table_update(a, b, c) as u64,
-    }
-}
-
-// The call that writes a ROUTE: form, IN and OF come first.
-fn route(table: &[u8], extra: &[u8], out: &mut [u8], values: &Values) -> u64 {
-    let form = small(values, 1);
-    let initial = small(values, 2);
-    let optional = small(values, 3);
-    capi::pk_route_write(form, initial, optional, table, extra, out)
-}
-
-// The two calls that let tickets go.
-fn release(call: u8, state: &mut [u8], list: &mut [u8], values: &Values) -> u32 {
-    let mut tickets = [0u16; 2048];
-    let end = elements::read_tickets(list, &mut tickets);
-    let code = let_go(call, state, &mut tickets[0..end], values);
+fn arrive(state: &mut [u8], list: &mut [u8], n: Numbers) -> Answer {
+    let mut tickets = [0; 2048];
+    let count = elements::read_tickets(list, &mut tickets);
+    let lent = &mut tickets[..count];
+    let code = capi::pk_resequencer_arrive(state, lent, n.small(2), n.large(3));
     elements::write_tickets(&tickets, list);
-    code
+    Answer::Code(code)
 }
 
-fn let_go(call: u8, state: &mut [u8], tickets: &mut [u16], values: &Values) -> u32 {
-    let sn = small(values, 3);
-    if call == b'T' {
-        capi::pk_resequencer_arrive(state, tickets, sn, large(values, 4))
-    } else {
-        capi::pk_resequencer_clock_end(state, tickets, sn)
-    }
+fn clock_end(state: &mut [u8], list: &mut [u8], n: Numbers) -> Answer {
+    let mut tickets = [0; 2048];
+    let count = elements::read_tickets(list, &mut tickets);
+    let code = capi::pk_resequencer_clock_end(state, &mut tickets[..count], n.small(2));
+    elements::write_tickets(&tickets, list);
+    Answer::Code(code)
 }
 
-// The calls on messages.
-fn message(call: u8, a: &[u8], b: &mut [u8], list: &mut [u8], values: &Values) -> u64 {
-    let mut lengths = [0usize; 1024];
-    let end = elements::read_lengths(list, &mut lengths);
-    let code = cut_or_join(call, a, b, &mut lengths[0..end], values);
+fn route_write(table: &[u8], extra: &[u8], out: &mut [u8], n: Numbers) -> Answer {
+    let form = n.small(0);
+    let initial = n.small(1);
+    let optional = n.small(2);
+    Answer::LongCode(capi::pk_route_write(form, initial, optional, table, extra, out))
+}
+
+fn table_choose(table: &[u8], n: Numbers) -> Answer {
+    Answer::Code(capi::pk_table_choose(table, n.small(1), n.large(2), n.large(3)))
+}
+
+fn cut(message: &[u8], out: &mut [u8], list: &mut [u8], n: Numbers) -> Answer {
+    let mut lengths = [0; 1024];
+    let count = elements::read_lengths(list, &mut lengths);
+    let form = n.small(0);
+    let sn = n.small(1);
+    let ps = n.small(2);
+    let pr = n.small(3);
+    let ch = n.small(4);
+    let lent = &mut lengths[..count];
+    let code = capi::pk_message_cut(form, sn, ps, pr, ch, message, out, lent);
     elements::write_lengths(&lengths, list);
-    code
+    Answer::LongCode(code)
 }
 
-fn cut_or_join(call: u8, a: &[u8], b: &mut [u8], lengths: &mut [usize], values: &Values) -> u64 {
-    let form = small(values, 1);
-    if call == b'Y' {
-        return capi::pk_message_join(form, lengths, a, b);
-    }
-    if call == b'b' {
-        return capi::pk_message_fault(form, lengths, a, large(values, 4) as usize) as u64;
-    }
-    let sn = small(values, 2);
-    let ps = small(values, 3);
-    let pr = small(values, 4);
-    let ch = small(values, 5);
-    capi::pk_message_cut(form, sn, ps, pr, ch, a, b, lengths)
+fn join(list: &[u8], frames: &[u8], out: &mut [u8], n: Numbers) -> Answer {
+    let mut lengths = [0; 1024];
+    let count = elements::read_lengths(list, &mut lengths);
+    Answer::LongCode(capi::pk_message_join(n.small(0), &lengths[..count], frames, out))
+}
+
+fn fault(list: &[u8], frames: &[u8], n: Numbers) -> Answer {
+    let mut lengths = [0; 1024];
+    let count = elements::read_lengths(list, &mut lengths);
+    let room = usize::from(n.large(3));
+    Answer::Position(capi::pk_message_fault(n.small(0), &lengths[..count], frames, room))
 }

@@ -14,9 +14,10 @@ ghost use Rattle.frame_writer.specs.Writing.{write_answer, write_bytes};
 ghost use Rattle.frame_writer.specs.Routes.{route_answer, route_bytes};
 ghost use Rattle.frame_reader.specs.Reading.{fault_answer, read_answer, read_bytes};
 ghost use Rattle.message.specs.Cutting.{cut_of, cut_output, cut_lengths};
-ghost use Rattle.message.specs.Joining.{joined_position, join_of, join_output};
+ghost use Rattle.message.specs.Joining.{join_of, join_output};
 ghost use Rattle.message_bytes.specs.Answers.{start_at, cut_answer, joined_answer};
 ghost use Rattle.route_bytes.specs.Stored.{empty_answer, empty_bytes, codes_answer, count_answer, choose_answer, choose_among_answer, update_answer, update_bytes, update_lost};
+ghost use Rattle.refusal.specs.Positions.{fault_position};
 
 // The symbol of `capi::pk_link_distance`.
 #[unsafe(no_mangle)]
@@ -262,7 +263,7 @@ pub extern "C" fn pk_message_join(form: u8, lengths: &[usize], frames: &[u8], ou
 // The symbol of `capi::pk_message_fault`.
 #[unsafe(no_mangle)]
 pub extern "C" fn pk_message_fault(form: u8, lengths: &[usize], frames: &[u8], room: usize) -> usize
-    ensures { result ≡ joined_position (join_of (form_at form) lengths.now frames.now room) }
+    ensures { result ≡ fault_position (join_of (form_at form) lengths.now frames.now room) }
 {
     capi::pk_message_fault(form, lengths, frames, room)
 }

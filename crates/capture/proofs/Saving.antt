@@ -1,33 +1,30 @@
 -- Saving: the sum of the lengths, and the loop that writes the offsets.
 -- Assumes nothing.
 use mathlib.Core.Path.{◌≡◌, refl, sym, ap, ap₂, ◌∙◌}
-use mathlib.Core.Bool.{true, false, ◌&&◌}
+use mathlib.Core.Bool.{Bool, true, ◌&&◌}
 use mathlib.Core.List.{List, [], ◌∷◌, ◌++◌, append_assoc, append-nil}
 use Prim.Native.Nat.{ℕ, ◌+◌, ◌-◌, ◌*◌, ◌<◌, ◌≤◌}
 use native.Mathlib.Nat.{suc-mul}
 use native.Mathlib.Numerals.{add-one}
 use native.Mathlib.Omega.{arith}
+use Rattle.std.specs.List.{list_all}
 use lib.Dec.{leb, eqb}
 use lib.ListN.{length, take, drop, get_or, drop_of_length-le, length-append, length-drop, take-append-drop}
 use lib.Seq.{paste, drop-cons, take_at, drop_at, take_all, drop-drop, drop-append-add, length-take-le}
 use borrow.Author.Tests.{leb-true, eqb-true}
-use Rattle.refusal.specs.declared.Refusal.{Refusal}
 use Rattle.refusal.specs.declared.Refusal.TheVariants.{OutOfRange, Malformed, MessageTooLong, OutputTooShort}
-use Rattle.refusal.specs.declared.Verdict.{Verdict}
-use Rattle.refusal.specs.declared.Verdict.TheVariants.{Done, Refused}
-use Rattle.refusal.specs.Numbers.{verdict_number, value_by, check}
+use Rattle.refusal.specs.Numbers.{check}
 use Rattle.refusal.proofs.Checks.{check_done, both_true}
 use Rattle.frame_form.specs.Forms.{form_at, form_valid}
 use Rattle.lists.specs.Frames.{sum}
 use Rattle.lists.proofs.Frames.{sum-here}
 use Rattle.lists.specs.Lists.{over}
 use Rattle.frame_fields.specs.Rows.{bytes_of}
-use Rattle.capture.specs.declared.Saved.{Saved}
-use Rattle.capture.specs.declared.Saved.TheVariants.{Bytes, Refused as NotSaved}
 use Rattle.capture.specs.Files.{words, header_size, offsets_from, header_of, file_of, most_frames, most_bytes, none_over}
-use Rattle.capture.specs.Saving.{saved_number, saved_bytes, file_size, save_verdict, save_by, save_of, save_output}
-use Rattle.capture.specs.Parts.{limits_verdict, with_offsets}
-use Rattle.capture.proofs.Numbers.{grows, same_size}
+use Rattle.capture.specs.Saving.{file_size, save_verdict, save_of, save_output}
+use Rattle.capture.specs.Parts.{Saveable, with_offsets}
+use Rattle.capture.proofs.Numbers.{grows}
+use Rattle.std.specs.Prelude.{Ok}
 
 -- numbers of at most `most` have a small sum
 pub sum-most : (most : ℕ) (ns : List ℕ) → none_over most ns ≡ true → sum ns ≤ length ns * most
@@ -37,15 +34,13 @@ sum-most most (n ∷ ns) e =
     let t = both_true (leb n most) (none_over most ns) e in
     omega (arith, leb-true n most t.0, sum-most most ns t.1, suc-mul (length ns) most)
 
+-- no number is over `most` where each passes the test
+pub all-is : (most : ℕ) (ns : List ℕ) → list_all (λ n. leb n most) ns ≡ none_over most ns
+unfolding none_over
+all-is most [] = refl
+all-is most (n ∷ ns) = ap (λ (b : Bool). leb n most && b) (all-is most ns)
+
 -- ---- the lengths from place i on
-
-pub over-here : (most : ℕ) (ls : List ℕ) (i : ℕ) → i < length ls → none_over most (drop i ls) ≡ (leb (get_or ls i 0) most && none_over most (drop (i + 1) ls))
-unfolding none_over
-over-here most ls i h = rw (add-one, drop-cons ls i 0 h) refl
-
-pub over-end : (most : ℕ) (ls : List ℕ) (i : ℕ) → length ls ≤ i → none_over most (drop i ls) ≡ true
-unfolding none_over
-over-end most ls i h = ap (none_over most) (drop_of_length-le ls {i = i} h)
 
 pub offsets-here : (ls : List ℕ) (offset i : ℕ) → i < length ls
     → words (offsets_from offset (drop i ls)) ≡ bytes_of 4 offset ++ words (offsets_from (offset + get_or ls i 0) (drop (i + 1) ls))
@@ -58,19 +53,15 @@ offsets-end ls offset i h = ap (λ (x : List ℕ). words (offsets_from offset x)
 
 -- ---- the loop
 
-pub record Heading (ls o₀ o : List ℕ) (offset at i : ℕ) : Type 0 where
-  pub index : i ≤ length ls
-  pub place : at ≡ 8 + 4 * i
+pub record Heading (ls o₀ o : List ℕ) (offset i : ℕ) : Type 0 where
   pub sums : offset + sum (drop i ls) ≡ header_size (length ls) + sum ls
   pub done : List ℕ
-  pub long : length done ≡ at
-  pub text : o ≡ done ++ drop at o₀
+  pub long : length done ≡ 8 + 4 * i
+  pub text : o ≡ done ++ drop (8 + 4 * i) o₀
   pub whole : done ++ words (offsets_from offset (drop i ls)) ≡ take 8 o₀ ++ words (offsets_from (header_size (length ls)) ls)
 
-pub starts : (ls o₀ : List ℕ) (offset : ℕ) → offset ≡ header_size (length ls) → 8 ≤ length o₀ → Heading ls o₀ o₀ offset 8 0
+pub starts : (ls o₀ : List ℕ) (offset : ℕ) → offset ≡ header_size (length ls) → 8 ≤ length o₀ → Heading ls o₀ o₀ offset 0
 starts ls o₀ offset e h = record {
-  index = omega arith;
-  place = refl;
   sums = ap (λ (x : ℕ). x + sum ls) e;
   done = take 8 o₀;
   long = length-take-le 8 o₀ h;
@@ -78,35 +69,28 @@ starts ls o₀ offset e h = record {
   whole = ap (λ (x : ℕ). take 8 o₀ ++ words (offsets_from x ls)) e;
 }
 
-module _ (ls o₀ o : List ℕ) (offset at i : ℕ) (v : Heading ls o₀ o offset at i) where
-  -- there is room for the offset
-  pub asks : header_size (length ls) ≤ length o₀ → (at + 4 ≤ length o) × (length o ≡ length o₀)
-  asks room =
-      let same = same_size v.done o₀ o at v.long v.text (omega (arith, v.index, v.place, room)) in
-      (omega (arith, same, v.index, v.place, room), same)
-
-  pub turns : (out : List ℕ) → i < length ls → out ≡ paste o at (bytes_of 4 offset) 4 → Heading ls o₀ out (offset + get_or ls i 0) (at + 4) (i + 1)
+module _ (ls o₀ o : List ℕ) (offset i : ℕ) (v : Heading ls o₀ o offset i) where
+  pub turns : (out : List ℕ) → i < length ls → out ≡ paste o (8 + 4 * i) (bytes_of 4 offset) 4 → Heading ls o₀ out (offset + get_or ls i 0) (i + 1)
   turns out h e =
-      let g = grows v.done o₀ o out at offset v.long v.text e in
+      let g = grows v.done o₀ o out (8 + 4 * i) offset v.long v.text e in
+      let next : 8 + 4 * i + 4 ≡ 8 + 4 * (i + 1) = omega arith in
       record {
-        index = omega arith;
-        place = omega (arith, v.place);
         sums = omega (arith, v.sums, sum-here ls i h);
         done = v.done ++ bytes_of 4 offset;
-        long = g.long;
-        text = g.text;
+        long = g.long ∙ next;
+        text = g.text ∙ ap (λ (k : ℕ). (v.done ++ bytes_of 4 offset) ++ drop k o₀) next;
         whole =
             append_assoc v.done (bytes_of 4 offset) (words (offsets_from (offset + get_or ls i 0) (drop (i + 1) ls)))
             ∙ ap (λ (x : List ℕ). v.done ++ x) (sym (offsets-here ls offset i h))
             ∙ v.whole;
       }
 
-  pub ends : (out : List ℕ) → length ls ≤ i → out ≡ paste o at (bytes_of 4 offset) 4 → out ≡ with_offsets ls o₀
+  pub ends : (out : List ℕ) → i ≡ length ls → out ≡ paste o (8 + 4 * length ls) (bytes_of 4 offset) 4 → out ≡ with_offsets ls o₀
   unfolding with_offsets
   ends out h e =
-      let g = grows v.done o₀ o out at offset v.long v.text e in
-      let all : v.done ++ bytes_of 4 offset ≡ take 8 o₀ ++ words (offsets_from (header_size (length ls)) ls) = ap (λ (x : List ℕ). v.done ++ x) (sym (offsets-end ls offset i h)) ∙ v.whole in
-      let to : at + 4 ≡ header_size (length ls) = omega (arith, v.place, v.index, h) in
+      let g = grows v.done o₀ o out (8 + 4 * i) offset v.long v.text (e ∙ ap (λ (k : ℕ). paste o (8 + 4 * k) (bytes_of 4 offset) 4) (sym h)) in
+      let all : v.done ++ bytes_of 4 offset ≡ take 8 o₀ ++ words (offsets_from (header_size (length ls)) ls) = ap (λ (x : List ℕ). v.done ++ x) (sym (offsets-end ls offset i (omega (arith, h)))) ∙ v.whole in
+      let to : 8 + 4 * i + 4 ≡ header_size (length ls) = omega (arith, h) in
       g.text ∙ ap₂ (λ (x : List ℕ) (k : ℕ). x ++ drop k o₀) all to
 
 -- ---- the whole header
@@ -142,36 +126,15 @@ headed form ls o o₁ o₂ out h e1 e2 e =
 
 -- ---- the checks
 
-module _ (form : ℕ) (ls frames : List ℕ) (room : ℕ) where
-  pub no-form : form_valid (form_at form) ≡ false → Refused OutOfRange ≡ save_verdict form ls frames room
-  unfolding save_verdict
-  no-form e = rw e refl
-
-  pub wrong-sum : form_valid (form_at form) ≡ true → eqb (sum ls) (length frames) ≡ false → Refused Malformed ≡ save_verdict form ls frames room
-  unfolding save_verdict
-  wrong-sum valid e = rw (valid, e) refl
-
-  pub limits : form_valid (form_at form) ≡ true → eqb (sum ls) (length frames) ≡ true → limits_verdict ls frames room ≡ save_verdict form ls frames room
-  unfolding save_verdict limits_verdict
-  limits valid sums = rw (valid, sums) refl
-
 -- short frames, and few of them, have small data
 pub small : (ls frames : List ℕ) → sum ls ≡ length frames → length ls ≤ most_frames → none_over most_bytes ls ≡ true → length frames ≤ 81920
 small ls frames sums few short = omega (arith, sum-most most_bytes ls short, few, sums)
 
--- what the verdict `Done` tells
-pub record Saveable (form : ℕ) (ls frames : List ℕ) (room : ℕ) : Type 0 where
-  pub valid : form_valid (form_at form) ≡ true
-  pub sums : sum ls ≡ length frames
-  pub few : length ls ≤ most_frames
-  pub short : none_over most_bytes ls ≡ true
-  pub small : length frames ≤ 81920
-  pub room-enough : file_size ls frames ≤ room
-
-pub saveable : (form : ℕ) (ls frames : List ℕ) (room : ℕ) → save_verdict form ls frames room ≡ Done → Saveable form ls frames room
+-- what the verdict `Ok tt` tells
+pub saveable : (form : ℕ) (ls frames : List ℕ) (room : ℕ) → save_verdict form ls frames room ≡ Ok tt → Saveable form ls frames room
 unfolding save_verdict
 saveable form ls frames room e =
-    let r3 = check (leb (file_size ls frames) room) OutputTooShort Done in
+    let r3 = check (leb (file_size ls frames) room) OutputTooShort (Ok tt) in
     let r2 = check (none_over most_bytes ls) MessageTooLong r3 in
     let r1 = check (leb (length ls) most_frames) MessageTooLong r2 in
     let r0 = check (eqb (sum ls) (length frames)) Malformed r1 in
@@ -179,7 +142,7 @@ saveable form ls frames room e =
     let b = check_done (eqb (sum ls) (length frames)) Malformed r1 a.1 in
     let c = check_done (leb (length ls) most_frames) MessageTooLong r2 b.1 in
     let d = check_done (none_over most_bytes ls) MessageTooLong r3 c.1 in
-    let f = check_done (leb (file_size ls frames) room) OutputTooShort Done d.1 in
+    let f = check_done (leb (file_size ls frames) room) OutputTooShort (Ok tt) d.1 in
     let few = leb-true (length ls) most_frames c.0 in
     record {
       valid = a.0;
@@ -218,24 +181,8 @@ file-length form ls frames = length-append (header_of form ls) frames ∙ ap (λ
 
 -- ---- the answer
 
-by-verdict : (v : Verdict) (n : ℕ) (r : Saved) → r ≡ save_by v n → (saved_number r ≡ verdict_number v) × (saved_bytes r ≡ value_by v n)
-by-verdict Done n r e = (ap saved_number e, ap saved_bytes e)
-by-verdict (Refused why) n r e = (ap saved_number e, ap saved_bytes e)
-
-pub answers : (form : ℕ) (ls frames out last : List ℕ) (r : Saved)
-    → (r ≡ save_of form ls frames (length out)) × (last ≡ save_output form ls frames out)
-    → (r ≡ save_of form ls frames (length out)) × ((last ≡ save_output form ls frames out)
-    × ((saved_number r ≡ verdict_number (save_verdict form ls frames (length out))) × (saved_bytes r ≡ value_by (save_verdict form ls frames (length out)) (file_size ls frames))))
-unfolding save_of
-answers form ls frames out last r e = (e.0, (e.1, by-verdict (save_verdict form ls frames (length out)) (file_size ls frames) r e.0))
-
 module _ (form : ℕ) (ls frames out : List ℕ) where
-  pub saved : (last : List ℕ) (n : ℕ) → save_verdict form ls frames (length out) ≡ Done → n ≡ file_size ls frames → last ≡ over (file_of form ls frames) out
-      → (Bytes n ≡ save_of form ls frames (length out)) × (last ≡ save_output form ls frames out)
+  pub saved : (last : List ℕ) (n : ℕ) → save_verdict form ls frames (length out) ≡ Ok tt → n ≡ file_size ls frames → last ≡ over (file_of form ls frames) out
+      → (Ok n ≡ save_of form ls frames (length out)) × (last ≡ save_output form ls frames out)
   unfolding save_of save_output
-  saved last n e en el = rw e (ap Bytes en, el)
-
-  pub not_saved : (why : Refusal) → save_verdict form ls frames (length out) ≡ Refused why
-      → (NotSaved why ≡ save_of form ls frames (length out)) × (out ≡ save_output form ls frames out)
-  unfolding save_of save_output
-  not_saved why e = rw e (refl, refl)
+  saved last n e en el = rw e (ap Ok en, el)

@@ -3,31 +3,28 @@
 -- don't run from the header's end to the file's end, 4 for a frame over 160 bytes." And where a
 -- frame is, which is answered for every file.
 -- Assumes nothing.
-use Rattle.std.specs.Prelude.{Bool, true, cond, ◌&&◌, List, [], ◌∷◌, ℕ, zero, suc, ◌+◌, ◌-◌, ◌*◌, leb, ltb, eqb, length, take, drop}
+use Rattle.std.specs.Prelude.{Bool, true, cond, ◌&&◌, List, [], ◌∷◌, ℕ, zero, suc, ◌+◌, ◌-◌, ◌*◌, leb, ltb, eqb, length, take, drop, Result, Ok, Err}
 use Rattle.refusal.specs.declared.Refusal.TheVariants.{OutOfRange, Malformed, MessageTooLong}
-use Rattle.refusal.specs.declared.Verdict.{Verdict}
-use Rattle.refusal.specs.declared.Verdict.TheVariants.{Done, Refused}
-use Rattle.refusal.specs.Numbers.{number_of, check}
+use Rattle.refusal.specs.Numbers.{check, Verdict}
 use Rattle.frame_fields.specs.Rows.{number_in}
 use Rattle.frame_form.specs.Forms.{form_at, form_valid}
-use Rattle.capture.specs.declared.Opened.{Opened}
-use Rattle.capture.specs.declared.Opened.TheVariants.{Capture, Refused as NotOpened}
 use Rattle.capture.specs.declared.Place.{Place}
 use Rattle.capture.specs.Files.{numbers_in, header_size, most_frames, most_bytes, none_over}
+use Rattle.capture.specs.declared.Opened.{Opened}
+use Rattle.refusal.specs.declared.Refusal.{Refusal}
 
--- the refusal number of an answer, 0 if the file was opened; the form and the count of frames, 0 if
--- not
-abbrev pub opened_number : Opened → ℕ
-opened_number (Capture form count) = 0
-opened_number (NotOpened why) = number_of why
+-- the answer for a file that was opened
+abbrev pub opened_as : ℕ → ℕ → Result Opened Refusal
+opened_as form count = Ok (record { form = form; count = count })
 
-abbrev pub opened_form : Opened → ℕ
-opened_form (Capture form count) = form
-opened_form (NotOpened why) = 0
+-- the form and the count of frames of an answer, 0 if the file is refused
+abbrev pub opened_form : Result Opened Refusal → ℕ
+opened_form (Ok opened) = opened.form
+opened_form (Err why) = 0
 
-abbrev pub opened_count : Opened → ℕ
-opened_count (Capture form count) = count
-opened_count (NotOpened why) = 0
+abbrev pub opened_count : Result Opened Refusal → ℕ
+opened_count (Ok opened) = opened.count
+opened_count (Err why) = 0
 
 -- ---- the header, as the file has it
 
@@ -83,15 +80,15 @@ open_verdict file =
     (check (leb (header_size (count_in file)) (length file)) Malformed
     (check (offsets_run file) Malformed
     (check (none_over most_bytes (steps_from (offset_at file 0) (later_offsets file))) MessageTooLong
-    Done)))))
+    (Ok tt))))))
 
 -- the answer: the form and the count of frames, or the refusal
-abbrev pub open_by : Verdict → ℕ → ℕ → Opened
-open_by Done form count = Capture form count
-open_by (Refused why) form count = NotOpened why
+abbrev pub open_by : Verdict → ℕ → ℕ → Result Opened Refusal
+open_by (Ok tt) form count = opened_as form count
+open_by (Err why) form count = Err why
 
 -- what `open_file` answers
-unfoldable pub open_of : List ℕ → Opened
+unfoldable pub open_of : List ℕ → Result Opened Refusal
 open_of file = open_by (open_verdict file) (form_in file) (count_in file)
 
 -- ---- the place of a frame, in any file: for this the file is not judged as a whole

@@ -2,26 +2,19 @@
 -- data, 4, 5." The frames lie in `frames` one after the other, `lengths` are their lengths. They
 -- are not read, so that empty ones, and frames that would be refused, are saved as they are.
 -- Assumes nothing.
-use Rattle.std.specs.Prelude.{List, ℕ, ◌+◌, leb, eqb, length}
+use Rattle.std.specs.Prelude.{List, ℕ, ◌+◌, leb, eqb, length, Result, Ok, Err}
 use Rattle.refusal.specs.declared.Refusal.TheVariants.{OutOfRange, Malformed, MessageTooLong, OutputTooShort}
-use Rattle.refusal.specs.declared.Verdict.{Verdict}
-use Rattle.refusal.specs.declared.Verdict.TheVariants.{Done, Refused}
-use Rattle.refusal.specs.Numbers.{number_of, check}
+use Rattle.refusal.specs.Numbers.{check, Verdict}
 use Rattle.lists.specs.Lists.{over}
 use Rattle.lists.specs.Frames.{sum}
 use Rattle.frame_form.specs.Forms.{form_at, form_valid}
-use Rattle.capture.specs.declared.Saved.{Saved}
-use Rattle.capture.specs.declared.Saved.TheVariants.{Bytes, Refused as NotSaved}
 use Rattle.capture.specs.Files.{header_size, file_of, most_frames, most_bytes, none_over}
+use Rattle.refusal.specs.declared.Refusal.{Refusal}
 
--- the refusal number of an answer, 0 if the frames were saved; and the file's length, 0 if not
-abbrev pub saved_number : Saved → ℕ
-saved_number (Bytes n) = 0
-saved_number (NotSaved why) = number_of why
-
-abbrev pub saved_bytes : Saved → ℕ
-saved_bytes (Bytes n) = n
-saved_bytes (NotSaved why) = 0
+-- the file's length in bytes that an answer tells, 0 if the frames were not saved
+abbrev pub saved_bytes : Result ℕ Refusal → ℕ
+saved_bytes (Ok n) = n
+saved_bytes (Err why) = 0
 
 -- the file's length in bytes
 abbrev pub file_size : List ℕ → List ℕ → ℕ
@@ -36,22 +29,22 @@ save_verdict form lengths frames room =
     (check (leb (length lengths) most_frames) MessageTooLong
     (check (none_over most_bytes lengths) MessageTooLong
     (check (leb (file_size lengths frames) room) OutputTooShort
-    Done))))
+    (Ok tt)))))
 
 -- the answer: the file's length, or the refusal
-abbrev pub save_by : Verdict → ℕ → Saved
-save_by Done n = Bytes n
-save_by (Refused why) n = NotSaved why
+abbrev pub save_by : Verdict → ℕ → Result ℕ Refusal
+save_by (Ok tt) n = Ok n
+save_by (Err why) n = Err why
 
 -- what `save` answers
-unfoldable pub save_of : ℕ → List ℕ → List ℕ → ℕ → Saved
+unfoldable pub save_of : ℕ → List ℕ → List ℕ → ℕ → Result ℕ Refusal
 save_of form lengths frames room = save_by (save_verdict form lengths frames room) (file_size lengths frames)
 
 -- the lent output afterwards: the file at its front, and past it what was there; after a refusal it
 -- is as before
 abbrev pub output_by : Verdict → List ℕ → List ℕ → List ℕ
-output_by Done file out = over file out
-output_by (Refused why) file out = out
+output_by (Ok tt) file out = over file out
+output_by (Err why) file out = out
 
 unfoldable pub save_output : ℕ → List ℕ → List ℕ → List ℕ → List ℕ
 save_output form lengths frames out = output_by (save_verdict form lengths frames (length out)) (file_of form lengths frames) out

@@ -6,38 +6,38 @@ use Prim.Native.Nat.{ℕ, ◌/◌, ◌%◌}
 use native.Mathlib.Omega.{arith}
 use Rattle.refusal.proofs.Numbers.{number-range}
 use Rattle.frame_fields.specs.Rows.{AreBytes}
-use Rattle.capture.specs.declared.Saved.{Saved}
-use Rattle.capture.specs.declared.Saved.TheVariants.{Bytes, Refused as NotSaved}
-use Rattle.capture.specs.declared.Opened.{Opened}
-use Rattle.capture.specs.declared.Opened.TheVariants.{Capture, Refused as NotOpened}
-use Rattle.capture.specs.Saving.{saved_number, saved_bytes, save_of}
-use Rattle.capture.specs.Opening.{opened_number, opened_form, opened_count, open_of}
+use Rattle.capture.specs.Saving.{saved_bytes, save_of}
+use Rattle.capture.specs.Opening.{opened_form, opened_count, open_of}
 use Rattle.capture_bytes.specs.Answers.{saved_answer, opened_answer}
 use Rattle.capture_bytes.specs.Claims.{OpenParts, PlaceParts, AnswerParts}
 use Rattle.capture_bytes.proofs.Sizes.{open-few, place-low}
+use Rattle.capture.specs.declared.Opened.{Opened}
+use Rattle.refusal.specs.Numbers.{refusal_number}
+use Rattle.std.specs.Prelude.{Result, Ok, Err}
+use Rattle.refusal.specs.declared.Refusal.{Refusal}
 
 -- each part of an answer of saving
-save-number : (s : Saved) → saved_answer s % 256 ≡ saved_number s
-save-number (Bytes n) = omega arith
-save-number (NotSaved why) = omega (arith, (number-range why).1)
+save-number : (s : Result ℕ Refusal) → saved_answer s % 256 ≡ refusal_number s
+save-number (Ok n) = omega arith
+save-number (Err why) = omega (arith, (number-range why).1)
 
-save-bytes : (s : Saved) → saved_answer s / 256 ≡ saved_bytes s
-save-bytes (Bytes n) = omega arith
-save-bytes (NotSaved why) = omega (arith, (number-range why).1)
+save-bytes : (s : Result ℕ Refusal) → saved_answer s / 256 ≡ saved_bytes s
+save-bytes (Ok n) = omega arith
+save-bytes (Err why) = omega (arith, (number-range why).1)
 
 -- each part of an answer of opening
-open-number : (o : Opened) → opened_answer o % 256 ≡ opened_number o
-open-number (Capture form count) = omega arith
-open-number (NotOpened why) = omega (arith, (number-range why).1)
+open-number : (o : Result Opened Refusal) → opened_answer o % 256 ≡ refusal_number o
+open-number (Ok opened) = omega arith
+open-number (Err why) = omega (arith, (number-range why).1)
 
 module _ (file : List ℕ) where
-  open-form : (o : Opened) → open_of file ≡ o → opened_answer o / 256 % 256 ≡ opened_form o
-  open-form (Capture form count) e = omega (arith, open-few file form count e)
-  open-form (NotOpened why) e = omega (arith, (number-range why).1)
+  open-form : (o : Result Opened Refusal) → open_of file ≡ o → opened_answer o / 256 % 256 ≡ opened_form o
+  open-form (Ok opened) e = omega (arith, open-few file opened.form opened.count e)
+  open-form (Err why) e = omega (arith, (number-range why).1)
 
-  open-count : (o : Opened) → open_of file ≡ o → opened_answer o / 65536 ≡ opened_count o
-  open-count (Capture form count) e = omega (arith, open-few file form count e)
-  open-count (NotOpened why) e = omega (arith, (number-range why).1)
+  open-count : (o : Result Opened Refusal) → open_of file ≡ o → opened_answer o / 65536 ≡ opened_count o
+  open-count (Ok opened) e = omega (arith, open-few file opened.form opened.count e)
+  open-count (Err why) e = omega (arith, (number-range why).1)
 
   open-parts : OpenParts file
   open-parts = record { number = open-number (open_of file); form = open-form (open_of file) refl; count = open-count (open_of file) refl }

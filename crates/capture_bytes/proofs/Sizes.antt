@@ -1,6 +1,6 @@
 -- A capture is so small, and its offsets have so few bits, that an answer fits one 64-bit number.
 -- Assumes nothing.
-use mathlib.Core.Path.{◌≡◌, refl}
+use mathlib.Core.Path.{◌≡◌, refl, ap}
 use mathlib.Core.Bool.{Bool, true, false}
 use mathlib.Core.List.{List, [], ◌∷◌}
 use Prim.Native.Nat.{ℕ, zero, suc, ◌+◌, ◌*◌, ◌<◌, ◌≤◌}
@@ -9,27 +9,24 @@ use lib.Dec.{leb}
 use lib.ListN.{length, drop, get_or}
 use borrow.Author.Tests.{leb-true, leb-false}
 use Rattle.refusal.specs.declared.Refusal.TheVariants.{OutOfRange, Malformed, MessageTooLong}
-use Rattle.refusal.specs.declared.Verdict.{Verdict}
-use Rattle.refusal.specs.declared.Verdict.TheVariants.{Done, Refused}
-use Rattle.refusal.specs.Numbers.{check}
+use Rattle.refusal.specs.Numbers.{check, Verdict}
 use Rattle.refusal.proofs.Checks.{check_done}
 use Rattle.frame_fields.specs.Rows.{AreBytes, number_in}
 use Rattle.frame_form.specs.Forms.{form_at, form_valid}
 use Rattle.frame_form.proofs.Claims.{form-numbers}
-use Rattle.capture.specs.declared.Saved.TheVariants.{Bytes}
-use Rattle.capture.specs.declared.Opened.TheVariants.{Capture}
 use Rattle.capture.specs.Files.{header_size, most_frames, most_bytes, largest_file, none_over}
 use Rattle.capture.specs.Saving.{file_size, save_verdict, save_by, save_of}
-use Rattle.capture.specs.Opening.{count_in, form_in, offset_at, later_offsets, steps_from, offsets_run, open_verdict, open_by, open_of, has_frame, place_in}
+use Rattle.capture.specs.Opening.{opened_as, opened_form, opened_count, count_in, form_in, offset_at, later_offsets, steps_from, offsets_run, open_verdict, open_by, open_of, has_frame, place_in}
 use Rattle.capture.proofs.Saving.{saveable}
+use Rattle.std.specs.Prelude.{Ok, Err}
 
 -- ---- saving
 
-by_bytes : (v : Verdict) (n m : ℕ) → save_by v n ≡ Bytes m → (v ≡ Done) × (n ≡ m)
-by_bytes Done n m e = (refl, cc)
-by_bytes (Refused why) n m e = let z : ◌≡◌ {A = ℕ} 0 1 = cc in absurd (omega arith)
+by_bytes : (v : Verdict) (n m : ℕ) → save_by v n ≡ Ok m → (v ≡ Ok tt) × (n ≡ m)
+by_bytes (Ok tt) n m e = (refl, cc)
+by_bytes (Err why) n m e = let z : ◌≡◌ {A = ℕ} 0 1 = cc in absurd (omega arith)
 
-pub save-few : (form : ℕ) (ls frames : List ℕ) (room n : ℕ) → save_of form ls frames room ≡ Bytes n → n ≤ largest_file
+pub save-few : (form : ℕ) (ls frames : List ℕ) (room n : ℕ) → save_of form ls frames room ≡ Ok n → n ≤ largest_file
 unfolding save_of
 save-few form ls frames room n e =
     let d = by_bytes (save_verdict form ls frames room) (file_size ls frames) n e in
@@ -38,9 +35,9 @@ save-few form ls frames room n e =
 
 -- ---- opening
 
-by-capture : (v : Verdict) (f n form count : ℕ) → open_by v f n ≡ Capture form count → (v ≡ Done) × (f ≡ form) × (n ≡ count)
-by-capture Done f n form count e = (refl, cc, cc)
-by-capture (Refused why) f n form count e = let z : ◌≡◌ {A = ℕ} 0 1 = cc in absurd (omega arith)
+by-capture : (v : Verdict) (f n form count : ℕ) → open_by v f n ≡ opened_as form count → (v ≡ Ok tt) × (f ≡ form) × (n ≡ count)
+by-capture (Ok tt) f n form count e = (refl, ap opened_form e, ap opened_count e)
+by-capture (Err why) f n form count e = let z : ◌≡◌ {A = ℕ} 0 1 = cc in absurd (omega arith)
 
 -- a number that is a form's is at most 17
 form-low : (n : ℕ) → form_valid (form_at n) ≡ true → n ≤ 17
@@ -53,10 +50,10 @@ form-low n e = go (leb n 17) refl
         let z : ◌≡◌ {A = ℕ} 0 1 = cc in
         absurd (omega arith)
 
-passes : (file : List ℕ) → open_verdict file ≡ Done → (form_in file ≤ 17) × (count_in file ≤ most_frames)
+passes : (file : List ℕ) → open_verdict file ≡ Ok tt → (form_in file ≤ 17) × (count_in file ≤ most_frames)
 unfolding open_verdict
 passes file e =
-    let r4 = check (none_over most_bytes (steps_from (offset_at file 0) (later_offsets file))) MessageTooLong Done in
+    let r4 = check (none_over most_bytes (steps_from (offset_at file 0) (later_offsets file))) MessageTooLong (Ok tt) in
     let r3 = check (offsets_run file) Malformed r4 in
     let r2 = check (leb (header_size (count_in file)) (length file)) Malformed r3 in
     let r1 = check (leb (count_in file) most_frames) MessageTooLong r2 in
@@ -66,7 +63,7 @@ passes file e =
     let c = check_done (leb (count_in file) most_frames) MessageTooLong r2 b.1 in
     (form-low (form_in file) b.0, leb-true (count_in file) most_frames c.0)
 
-pub open-few : (file : List ℕ) (form count : ℕ) → open_of file ≡ Capture form count → (form ≤ 17) × (count ≤ most_frames)
+pub open-few : (file : List ℕ) (form count : ℕ) → open_of file ≡ opened_as form count → (form ≤ 17) × (count ≤ most_frames)
 unfolding open_of
 open-few file form count e =
     let d = by-capture (open_verdict file) (form_in file) (count_in file) form count e in

@@ -4,19 +4,20 @@
 -- Assumes nothing.
 use Rattle.std.specs.Prelude.{◌≡◌, List, ℕ, ◌/◌, ◌%◌}
 use Rattle.frame_fields.specs.Rows.{AreBytes}
-use Rattle.capture.specs.Saving.{saved_number, saved_bytes, save_of}
-use Rattle.capture.specs.Opening.{opened_number, opened_form, opened_count, open_of, place_in}
+use Rattle.capture.specs.Saving.{saved_bytes, save_of}
+use Rattle.capture.specs.Opening.{opened_form, opened_count, open_of, place_in}
 use Rattle.capture_bytes.specs.Answers.{saved_answer, opened_answer, place_answer}
+use Rattle.refusal.specs.Numbers.{refusal_number}
 
 -- of saving: the refusal number is in bits 0 to 7, the file's length from bit 8 up
 pub record SaveParts (form : ℕ) (lengths frames : List ℕ) (room : ℕ) : Type 0 where
-  pub number : saved_answer (save_of form lengths frames room) % 256 ≡ saved_number (save_of form lengths frames room)
+  pub number : saved_answer (save_of form lengths frames room) % 256 ≡ refusal_number (save_of form lengths frames room)
   pub bytes : saved_answer (save_of form lengths frames room) / 256 ≡ saved_bytes (save_of form lengths frames room)
 
 -- of opening: the refusal number is in bits 0 to 7, the form in bits 8 to 15, the count from bit 16
 -- up
 pub record OpenParts (file : List ℕ) : Type 0 where
-  pub number : opened_answer (open_of file) % 256 ≡ opened_number (open_of file)
+  pub number : opened_answer (open_of file) % 256 ≡ refusal_number (open_of file)
   pub form : opened_answer (open_of file) / 256 % 256 ≡ opened_form (open_of file)
   pub count : opened_answer (open_of file) / 65536 ≡ opened_count (open_of file)
 

@@ -8,18 +8,15 @@ ghost use Rattle.capture.specs.Saving.{save_of, save_output};
 ghost use Rattle.capture.specs.Opening.{open_of, place_in};
 ghost use Rattle.capture_bytes.specs.Answers.{saved_answer, opened_answer, place_answer};
 
-use capture::{Opened, Saved};
-
 // Saves frames in a capture, as `capture::save` does: the file goes to the front of `out`. The
 // answer holds the refusal number in bits 0 to 7 and the file's length from bit 8 up.
 pub fn save(form: u8, lengths: &[usize], frames: &[u8], out: &mut [u8]) -> u64
     ensures value { result ≡ saved_answer (save_of form lengths.now frames.now (length out.old)) }
     ensures written { out.new ≡ save_output form lengths.now frames.now out.old }
 {
-    let saved = capture::save(form, lengths, frames, out);
-    match saved {
-        Saved::Bytes(n) => 256 * n as u64,
-        Saved::Refused(why) => why.number() as u64,
+    match capture::save(form, lengths, frames, out) {
+        Ok(n) => 256 * n as u64,
+        Err(why) => why.number() as u64,
     }
 }
 
@@ -28,10 +25,9 @@ pub fn save(form: u8, lengths: &[usize], frames: &[u8], out: &mut [u8]) -> u64
 pub fn open_file(file: &[u8]) -> u64
     ensures { result ≡ opened_answer (open_of file.now) }
 {
-    let opened = capture::open_file(file);
-    match opened {
-        Opened::Capture(form, count) => 256 * form as u64 + 65536 * count as u64,
-        Opened::Refused(why) => why.number() as u64,
+    match capture::open_file(file) {
+        Ok(opened) => 256 * opened.form as u64 + 65536 * opened.count as u64,
+        Err(why) => why.number() as u64,
     }
 }
 

@@ -11,38 +11,36 @@ use native.Mathlib.Omega.{arith}
 use lib.ListN.{length, take, drop, replicate, length-append, length-drop, length-replicate, take-append-drop}
 use lib.Seq.{drop-drop, drop_at, take-append_seam}
 use borrow.Author.Tests.{le-leb, eq-eqb}
-use Rattle.refusal.specs.declared.Verdict.{Verdict}
-use Rattle.refusal.specs.declared.Verdict.TheVariants.{Done, Refused}
 use Rattle.refusal.proofs.Numbers.{number-range}
 use Rattle.lists.specs.Lists.{over}
 use Rattle.lists.specs.Frames.{bytes_in, lengths_of, parts_of, sum}
 use Rattle.lists.proofs.Frames.{parts-back, sum-lengths, count-lengths, count-parts, bytes_back, lengths-back}
 use Rattle.frame_fields.specs.Rows.{number_in, AreBytes}
 use Rattle.frame_form.proofs.Claims.{form-numbers}
-use Rattle.capture.specs.declared.Saved.TheVariants.{Bytes}
-use Rattle.capture.specs.declared.Opened.TheVariants.{Capture}
 use Rattle.capture.specs.declared.Place.{Place}
 use Rattle.capture.specs.Files.{words, numbers_in, header_size, offsets_from, header_of, file_of, most_frames, most_bytes, largest_file, none_over}
-use Rattle.capture.specs.Saving.{saved_number, saved_bytes, file_size, save_verdict, save_by, save_of, output_by, save_output}
-use Rattle.capture.specs.Opening.{opened_number, opened_form, opened_count, count_in, form_in, offset_at, later_offsets, last_offset, steps_from, open_verdict, open_by, open_of, place_in, part_at, frames_in}
+use Rattle.capture.specs.Saving.{saved_bytes, file_size, save_verdict, save_by, save_of, output_by, save_output}
+use Rattle.capture.specs.Opening.{opened_as, opened_form, opened_count, count_in, form_in, offset_at, later_offsets, last_offset, steps_from, open_verdict, open_by, open_of, place_in, part_at, frames_in}
 use Rattle.capture.proofs.Saving.{sum-most, small, header-length, file-length, saveable, saved}
 use Rattle.capture.proofs.Opening.{past-count}
 use Rattle.capture_claims.specs.Claims.{Holds, capture_of, saved_frames, SavedIsOpened, OpenedIsSaved, FramesLie, CaptureClaim, Largest, RefusalsChangeNothing}
 use Rattle.capture_claims.proofs.Offsets.{later_from, offsets_are, steps-count, steps_back, numbers-count, later-steps, words_back}
 use Rattle.capture_claims.proofs.Files.{IsOpen, open-tells, opens, count-is, form-is, first-is, later-is, saved-opens}
 use Rattle.capture_claims.proofs.Frames.{at_place, lies, frames-are}
+use Rattle.refusal.specs.Numbers.{Verdict, refusal_number}
+use Rattle.std.specs.Prelude.{Ok, Err}
 
--- ---- a file whose verdict is `Done`
+-- ---- a file whose verdict is `Ok tt`
 
-pub answered : (file : List ℕ) → open_verdict file ≡ Done → open_of file ≡ Capture (form_in file) (count_in file)
+pub answered : (file : List ℕ) → open_verdict file ≡ Ok tt → open_of file ≡ opened_as (form_in file) (count_in file)
 unfolding open_of
 answered file e = ap (λ (v : Verdict). open_by v (form_in file) (count_in file)) e
 
-number-done : (v : Verdict) (f n : ℕ) → opened_number (open_by v f n) ≡ 0 → v ≡ Done
-number-done Done f n e = refl
-number-done (Refused why) f n e = absurd (omega (arith, e, (number-range why).0))
+number-done : (v : Verdict) (f n : ℕ) → refusal_number (open_by v f n) ≡ 0 → v ≡ Ok tt
+number-done (Ok tt) f n e = refl
+number-done (Err why) f n e = absurd (omega (arith, e, (number-range why).0))
 
-done : (file : List ℕ) → opened_number (open_of file) ≡ 0 → open_verdict file ≡ Done
+done : (file : List ℕ) → refusal_number (open_of file) ≡ 0 → open_verdict file ≡ Ok tt
 unfolding open_of
 done file e = number-done (open_verdict file) (form_in file) (count_in file) e
 
@@ -67,10 +65,10 @@ module _ (form : ℕ) (frames : List (List ℕ)) (valid : form ≤ 17) (holds : 
   file-opens : IsOpen (capture_of form frames)
   file-opens = saved-opens form ls data' valid few sum-small sums holds.short
 
-  pub opens_as : open_of (capture_of form frames) ≡ Capture form (length frames)
+  pub opens_as : open_of (capture_of form frames) ≡ opened_as form (length frames)
   opens_as =
       answered (capture_of form frames) (opens (capture_of form frames) file-opens)
-      ∙ ap₂ Capture (form-is form ls data' valid few sum-small) (count-is form ls data' valid few sum-small ∙ count-lengths frames)
+      ∙ ap₂ opened_as (form-is form ls data' valid few sum-small) (count-is form ls data' valid few sum-small ∙ count-lengths frames)
 
   behind : drop (header_size (length ls)) (capture_of form frames) ≡ data'
   unfolding file_of
@@ -87,7 +85,7 @@ module _ (form : ℕ) (frames : List (List ℕ)) (valid : form ≤ 17) (holds : 
       ∙ parts-back frames
 
   module _ (out : List ℕ) (room : length (capture_of form frames) ≤ length out) where
-    verdict : save_verdict form ls data' (length out) ≡ Done
+    verdict : save_verdict form ls data' (length out) ≡ Ok tt
     unfolding save_verdict
     verdict =
         rw (
@@ -98,7 +96,7 @@ module _ (form : ℕ) (frames : List (List ℕ)) (valid : form ≤ 17) (holds : 
           le-leb (file_size ls data') (length out) (omega (arith, file-length form ls data', room)),
         ) refl
 
-    pub written : (save_of form ls data' (length out) ≡ Bytes (length (capture_of form frames))) × (saved_frames form frames out ≡ over (capture_of form frames) out)
+    pub written : (save_of form ls data' (length out) ≡ Ok (length (capture_of form frames))) × (saved_frames form frames out ≡ over (capture_of form frames) out)
     written =
         let s = saved form ls data' out (over (capture_of form frames) out) (length (capture_of form frames)) verdict (file-length form ls data') refl in
         (sym s.0, sym s.1)
@@ -163,7 +161,7 @@ module _ (file : List ℕ) (v : IsOpen file) where
   pub file-most : length file ≤ largest_file
   file-most = omega (arith, back.1, v.last, v.first, sum-most most_bytes steps v.short, steps-many, v.few)
 
-module _ (file out : List ℕ) (b : AreBytes file) (e : opened_number (open_of file) ≡ 0) where
+module _ (file out : List ℕ) (b : AreBytes file) (e : refusal_number (open_of file) ≡ 0) where
   form-known : opened_form (open_of file) ≡ form_in file
   form-known = ap opened_form (answered file (done file e))
 
@@ -180,11 +178,11 @@ module _ (file out : List ℕ) (b : AreBytes file) (e : opened_number (open_of f
       record {
         count = ap opened_count (answered file (done file e)) ∙ sym (frames-many file v);
         holds = frames-hold file v;
-        is-saved = w.0 ∙ ap (λ (f : List ℕ). Bytes (length f)) (sym no-others);
+        is-saved = w.0 ∙ ap (λ (f : List ℕ). Ok (length f)) (sym no-others);
         same-file = w.1 ∙ ap (λ (f : List ℕ). over f out) (sym no-others);
       }
 
-pub frames-lie : (file : List ℕ) → opened_number (open_of file) ≡ 0 → FramesLie file
+pub frames-lie : (file : List ℕ) → refusal_number (open_of file) ≡ 0 → FramesLie file
 unfolding last_offset numbers_in
 frames-lie file e =
     let v = open-tells file (done file e) in
@@ -238,12 +236,12 @@ module _ (n k : ℕ) (few : n ≤ most_frames) (short : k ≤ most_bytes) where
       file-length form (lengths_of (replicate n (replicate k 0))) (bytes_in (replicate n (replicate k 0)))
       ∙ ap₂ (λ (c d : ℕ). header_size c + d) (count-lengths (replicate n (replicate k 0)) ∙ length-replicate n (replicate k 0)) (bytes-alike n (replicate k 0) ∙ ap (λ (x : ℕ). n * x) (length-replicate k 0))
 
-  alike-opens : (form : ℕ) → form ≤ 17 → open_of (capture_of form (replicate n (replicate k 0))) ≡ Capture form n
-  alike-opens form valid = opens_as form (replicate n (replicate k 0)) valid alike ∙ ap (Capture form) (length-replicate n (replicate k 0))
+  alike-opens : (form : ℕ) → form ≤ 17 → open_of (capture_of form (replicate n (replicate k 0))) ≡ opened_as form n
+  alike-opens form valid = opens_as form (replicate n (replicate k 0)) valid alike ∙ ap (opened_as form) (length-replicate n (replicate k 0))
 
 saved-most : (form : ℕ) (ls frames : List ℕ) (room : ℕ) (v : Verdict) → save_verdict form ls frames room ≡ v → saved_bytes (save_by v (file_size ls frames)) ≤ largest_file
-saved-most form ls frames room Done e = let s = saveable form ls frames room e in omega (arith, s.few, s.small)
-saved-most form ls frames room (Refused why) e = omega arith
+saved-most form ls frames room (Ok tt) e = let s = saveable form ls frames room e in omega (arith, s.few, s.small)
+saved-most form ls frames room (Err why) e = omega arith
 
 pub largest : Largest
 unfolding save_of
@@ -255,13 +253,13 @@ largest = record {
 
 -- ---- refusals
 
-refused-save : (v : Verdict) (n : ℕ) (file out : List ℕ) → saved_number (save_by v n) ≢ 0 → (saved_bytes (save_by v n) ≡ 0) × (output_by v file out ≡ out)
-refused-save Done n file out h = absurd (h refl)
-refused-save (Refused why) n file out h = (refl, refl)
+refused-save : (v : Verdict) (n : ℕ) (file out : List ℕ) → refusal_number (save_by v n) ≢ 0 → (saved_bytes (save_by v n) ≡ 0) × (output_by v file out ≡ out)
+refused-save (Ok tt) n file out h = absurd (h refl)
+refused-save (Err why) n file out h = (refl, refl)
 
-refused-open : (v : Verdict) (f n : ℕ) → opened_number (open_by v f n) ≢ 0 → (opened_form (open_by v f n) ≡ 0) × (opened_count (open_by v f n) ≡ 0)
-refused-open Done f n h = absurd (h refl)
-refused-open (Refused why) f n h = (refl, refl)
+refused-open : (v : Verdict) (f n : ℕ) → refusal_number (open_by v f n) ≢ 0 → (opened_form (open_by v f n) ≡ 0) × (opened_count (open_by v f n) ≡ 0)
+refused-open (Ok tt) f n h = absurd (h refl)
+refused-open (Err why) f n h = (refl, refl)
 
 pub refusals-change-nothing : RefusalsChangeNothing
 unfolding save_of save_output open_of

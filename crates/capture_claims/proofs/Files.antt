@@ -10,7 +10,6 @@ use lib.Dec.{leb, eqb}
 use lib.ListN.{length, drop}
 use borrow.Author.Tests.{leb-true, le-leb, eqb-true, eq-eqb}
 use Rattle.refusal.specs.declared.Refusal.TheVariants.{OutOfRange, Malformed, MessageTooLong}
-use Rattle.refusal.specs.declared.Verdict.TheVariants.{Done}
 use Rattle.refusal.specs.Numbers.{check}
 use Rattle.refusal.proofs.Checks.{check_done, both_true}
 use Rattle.lists.specs.Frames.{sum}
@@ -21,8 +20,9 @@ use Rattle.capture.specs.Files.{words, numbers_in, header_size, header_of, file_
 use Rattle.capture.specs.Opening.{count_in, form_in, offset_at, later_offsets, none_falls, last_offset, steps_from, offsets_run, open_verdict}
 use Rattle.capture.proofs.Saving.{file-length}
 use Rattle.capture_claims.proofs.Offsets.{later_from, offsets_are, later-count, later-rise, later_last, later-steps, later-over, word_read, words-read}
+use Rattle.std.specs.Prelude.{Ok}
 
--- what the verdict `Done` tells of a file
+-- what the verdict `Ok tt` tells of a file
 pub record IsOpen (file : List ℕ) : Type 0 where
   pub form : form_in file ≤ 17
   pub few : count_in file ≤ most_frames
@@ -39,11 +39,11 @@ known n e = go (dec_lt 17 n)
     go (yes h) = let z : true ≡ false = sym e ∙ form-numbers.others n h in let w : ◌≡◌ {A = ℕ} 0 1 = cc in absurd (omega arith)
     go (no h) = omega (arith, h)
 
-pub open-tells : (file : List ℕ) → open_verdict file ≡ Done → IsOpen file
+pub open-tells : (file : List ℕ) → open_verdict file ≡ Ok tt → IsOpen file
 unfolding open_verdict
 open-tells file e =
     let short = none_over most_bytes (steps_from (offset_at file 0) (later_offsets file)) in
-    let r4 = check short MessageTooLong Done in
+    let r4 = check short MessageTooLong (Ok tt) in
     let r3 = check (offsets_run file) Malformed r4 in
     let r2 = check (leb (header_size (count_in file)) (length file)) Malformed r3 in
     let r1 = check (leb (count_in file) most_frames) MessageTooLong r2 in
@@ -53,7 +53,7 @@ open-tells file e =
     let c = check_done (leb (count_in file) most_frames) MessageTooLong r2 b.1 in
     let d = check_done (leb (header_size (count_in file)) (length file)) Malformed r3 c.1 in
     let f = check_done (offsets_run file) Malformed r4 d.1 in
-    let g = check_done short MessageTooLong Done f.1 in
+    let g = check_done short MessageTooLong (Ok tt) f.1 in
     let rise = none_falls (offset_at file 0) (later_offsets file) in
     let last = eqb (last_offset (offset_at file 0) (later_offsets file)) (length file) in
     let t = both_true (eqb (offset_at file 0) (header_size (count_in file))) (rise && last) f.0 in
@@ -68,7 +68,7 @@ open-tells file e =
       short = g.0;
     }
 
-pub opens : (file : List ℕ) → IsOpen file → open_verdict file ≡ Done
+pub opens : (file : List ℕ) → IsOpen file → open_verdict file ≡ Ok tt
 unfolding open_verdict
 opens file v =
     rw (

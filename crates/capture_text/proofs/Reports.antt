@@ -13,20 +13,18 @@ use lib.ListN.{length, drop}
 use borrow.Author.Tests.{le-leb, lt-leb}
 use Rattle.refusal.specs.declared.Refusal.{Refusal}
 use Rattle.refusal.specs.declared.Refusal.TheVariants.{OutOfRange, Malformed, MessageTooLong, OutputTooShort}
-use Rattle.refusal.specs.declared.Verdict.{Verdict}
-use Rattle.refusal.specs.declared.Verdict.TheVariants.{Done, Refused}
-use Rattle.refusal.specs.Numbers.{number_of, verdict_number, check}
+use Rattle.refusal.specs.Numbers.{number_of, check, refusal_number, Verdict}
 use Rattle.text.specs.Writing.{Wrote}
 use Rattle.text.proofs.Writing.{none, then, meant, in-front}
 use Rattle.frame_form.specs.declared.Form.{Form}
 use Rattle.frame_form.specs.Forms.{form_at, form_valid}
-use Rattle.capture.specs.declared.Opened.{Opened}
-use Rattle.capture.specs.declared.Opened.TheVariants.{Capture, Refused as NotOpened}
 use Rattle.capture.specs.Saving.{output_by}
-use Rattle.capture.specs.Opening.{opened_form, opened_count, form_in, count_in, open_verdict, open_by, open_of, frame_in, frames_from}
+use Rattle.capture.specs.Opening.{opened_form, opened_count, form_in, count_in, open_verdict, open_by, open_of, frame_in, frames_from, opened_as}
 use Rattle.capture_text.specs.declared.Report.{Report}
 use Rattle.capture_text.specs.Report.{line_text, lines_text, file_verdict, report_by, report_text, room_verdict, answer_by, report_of, report_output}
 use Rattle.capture_text.specs.Parts.{refused_line}
+use Rattle.capture.specs.declared.Opened.{Opened}
+use Rattle.std.specs.Prelude.{Result, Ok, Err}
 
 -- ---- the lines
 
@@ -47,9 +45,6 @@ module _ (hex : Bool) (form : Form) (file : List ℕ) where
   unfolding lines_text frames_from
   lines_none o = none o 0 (128 * 0)
 
-  pub line-room : (o out : List ℕ) (w i : ℕ) → i < 512 → 65536 ≤ length o → Wrote o out 0 w (128 * i) (lines_text hex form (frames_from file 0 i)) → w + 128 ≤ length out
-  line-room o out w i h room a = omega (arith, a.within, a.size)
-
   pub lines-turn : (o out out' frame : List ℕ) (w w' i : ℕ) → frame ≡ frame_in file i → Wrote o out 0 w (128 * i) (lines_text hex form (frames_from file 0 i))
       → Wrote out out' w w' 128 (line_text hex form frame) → Wrote o out' 0 w' (128 * (i + 1)) (lines_text hex form (frames_from file 0 (i + 1)))
   lines-turn o out out' frame w w' i e a b =
@@ -59,15 +54,9 @@ module _ (hex : Bool) (form : Form) (file : List ℕ) where
       ∙ lines_more hex form (frames_from file 0 i) (frame_in file (0 + i))
       ∙ ap (lines_text hex form) (frames-more file 0 i ∙ ap (frames_from file 0) (sym (add-one i)))) (omega arith)
 
-  pub lines-done : (o out : List ℕ) (w i count : ℕ) → i ≤ count → count ≤ i → count ≤ 512 → Wrote o out 0 w (128 * i) (lines_text hex form (frames_from file 0 i))
-      → Wrote o out 0 w 65536 (lines_text hex form (frames_from file 0 count))
-  lines-done o out w i count h k few a =
-      let e : i ≡ count = omega arith in
-      meant a (ap (λ j. lines_text hex form (frames_from file 0 j)) e) (omega arith)
-
 -- ---- whether the file opens
 
-pub too_long : (file : List ℕ) → 83980 < length file → NotOpened MessageTooLong ≡ open_by (file_verdict file) (form_in file) (count_in file)
+pub too_long : (file : List ℕ) → 83980 < length file → Err MessageTooLong ≡ open_by (file_verdict file) (form_in file) (count_in file)
 unfolding file_verdict
 too_long file h = rw (lt-leb (length file) 83980 h)
 
@@ -76,10 +65,10 @@ unfolding file_verdict open_of
 opens file h = rw (le-leb (length file) 83980 h)
 
 count_kept : (v : Verdict) (f c : ℕ) → opened_count (open_by v f c) ≤ c
-count_kept Done f c = omega arith
-count_kept (Refused why) f c = omega arith
+count_kept (Ok tt) f c = omega arith
+count_kept (Err why) f c = omega arith
 
-none-opened : (a b : Bool) (f c : ℕ) → opened_count (open_by (check a Malformed (check b OutOfRange (Refused MessageTooLong))) f c) ≤ 512
+none-opened : (a b : Bool) (f c : ℕ) → opened_count (open_by (check a Malformed (check b OutOfRange (Err MessageTooLong))) f c) ≤ 512
 none-opened true true f c = omega arith
 none-opened true false f c = omega arith
 none-opened false b f c = omega arith
@@ -102,84 +91,84 @@ few file = elim (dec_le (count_in file) 512) [
 
 -- ---- the report
 
--- the text and the number of a file that opened, and of one that was refused
-pub record Says (hex : Bool) (file : List ℕ) (v : Verdict) (said : List ℕ) (n : ℕ) : Type 0 where
+-- the text of a file that opened, and of one that was refused; and which it is
+pub record Says (hex : Bool) (file : List ℕ) (v : Verdict) (said : List ℕ) (n : Verdict) : Type 0 where
   pub text : said ≡ report_by v hex file
-  pub number : n ≡ verdict_number v
+  pub number : n ≡ v
 
-capture-says : (v : Verdict) (hex : Bool) (file : List ℕ) (f c : ℕ) → open_by v (form_in file) (count_in file) ≡ Capture f c
-    → Says hex file v (lines_text hex (form_at f) (frames_from file 0 c)) 0
-capture-says Done hex file f c e = record {
+capture-says : (v : Verdict) (hex : Bool) (file : List ℕ) (f c : ℕ) → open_by v (form_in file) (count_in file) ≡ opened_as f c
+    → Says hex file v (lines_text hex (form_at f) (frames_from file 0 c)) (Ok tt)
+capture-says (Ok tt) hex file f c e = record {
   text = ap (λ k. lines_text hex (form_at k) (frames_from file 0 c)) (sym (ap opened_form e))
       ∙ ap (λ k. lines_text hex (form_at (form_in file)) (frames_from file 0 k)) (sym (ap opened_count e));
   number = refl;
 }
-capture-says (Refused why) hex file f c e =
+capture-says (Err why) hex file f c e =
     let z : ◌≡◌ {A = ℕ} 0 1 = cc in
     absurd (omega arith)
 
-refusal-says : (v : Verdict) (hex : Bool) (file : List ℕ) (why : Refusal) → open_by v (form_in file) (count_in file) ≡ NotOpened why
-    → Says hex file v (refused_line why) (number_of why)
-refusal-says Done hex file why e =
+refusal-says : (v : Verdict) (hex : Bool) (file : List ℕ) (why : Refusal) → open_by v (form_in file) (count_in file) ≡ Err why
+    → Says hex file v (refused_line why) (Err why)
+refusal-says (Ok tt) hex file why e =
     let z : ◌≡◌ {A = ℕ} 0 1 = cc in
     absurd (omega arith)
-refusal-says (Refused w) hex file why e =
+refusal-says (Err w) hex file why e =
     let s : w ≡ why = cc in
-    record { text = ap refused_line (sym s); number = ap number_of (sym s) }
+    record { text = ap refused_line (sym s); number = ap Err (sym s) }
 
 -- what the contract of the call asks
 pub record Reported (hex : Bool) (file o o' : List ℕ) (r : Report) : Type 0 where
   pub answer : r ≡ report_of hex file (length o)
-  pub number : verdict_number r.verdict ≡ verdict_number (room_verdict (length o))
+  pub number : refusal_number r.verdict ≡ refusal_number (room_verdict (length o))
   pub written : o' ≡ report_output hex file o
   pub inside : r.written ≤ length o
 
-room-there : (n : ℕ) → 65536 ≤ n → Done ≡ room_verdict n
+room-there : (n : ℕ) → 65536 ≤ n → (Ok tt) ≡ room_verdict n
 unfolding room_verdict
 room-there n h = rw (le-leb 65536 n h)
 
-room-not : (n : ℕ) → n < 65536 → Refused OutputTooShort ≡ room_verdict n
+room-not : (n : ℕ) → n < 65536 → Err OutputTooShort ≡ room_verdict n
 unfolding room_verdict
 room-not n h = rw (lt-leb 65536 n h)
 
 pub no_room : (hex : Bool) (file o : List ℕ) → length o < 65536
-    → Reported hex file o o (record { verdict = Refused OutputTooShort; written = 0; refused = 0 })
+    → Reported hex file o o (record { verdict = Err OutputTooShort; written = 0; file = Ok tt })
 unfolding report_of report_output
 no_room hex file o h =
-    let e : Refused OutputTooShort ≡ room_verdict (length o) = room-not (length o) h in
+    let e : Err OutputTooShort ≡ room_verdict (length o) = room-not (length o) h in
     record {
       answer = ap (λ v. answer_by v hex file) e;
-      number = ap verdict_number e;
+      number = ap refusal_number e;
       written = ap (λ v. output_by v (report_text hex file) o) e;
       inside = omega arith;
     }
 
-reported : (hex : Bool) (file o o' text : List ℕ) (r n m : ℕ) → 65536 ≤ length o → m ≤ 65536 → Wrote o o' 0 r m text → Says hex file (file_verdict file) text n
-    → Reported hex file o o' (record { verdict = Done; written = r; refused = n })
+reported : (hex : Bool) (file o o' text : List ℕ) (r : ℕ) (n : Verdict) (m : ℕ) → 65536 ≤ length o → m ≤ 65536 → Wrote o o' 0 r m text → Says hex file (file_verdict file) text n
+    → Reported hex file o o' (record { verdict = Ok tt; written = r; file = n })
 unfolding report_of report_output report_text
 reported hex file o o' text r n m h k w s =
-    let e : Done ≡ room_verdict (length o) = room-there (length o) h in
+    let e : (Ok tt) ≡ room_verdict (length o) = room-there (length o) h in
     let l : r ≡ length text = omega (arith, w.end) in
     record {
       answer =
-          ap (λ j. record { verdict = Done; written = j; refused = n }) (l ∙ ap length s.text)
-          ∙ ap (λ j. record { verdict = Done; written = length (report_text hex file); refused = j }) s.number
+          ap (λ j. record { verdict = Ok tt; written = j; file = n }) (l ∙ ap length s.text)
+          ∙ ap (λ j. record { verdict = Ok tt; written = length (report_text hex file); file = j }) s.number
           ∙ ap (λ v. answer_by v hex file) e;
-      number = ap verdict_number e;
+      number = ap refusal_number e;
       written = in-front w (omega arith) ∙ ap (λ t. t ++ drop (length t) o) s.text ∙ ap (λ v. output_by v (report_text hex file) o) e;
       inside = omega (arith, w.within);
     }
 
-module _ (hex : Bool) (file o o' : List ℕ) (r : ℕ) (opened : Opened) (room : 65536 ≤ length o)
+module _ (hex : Bool) (file o o' : List ℕ) (r : ℕ) (opened : (Result Opened Refusal)) (room : 65536 ≤ length o)
     (judged : opened ≡ open_by (file_verdict file) (form_in file) (count_in file)) where
-  pub lines-reported : (f c : ℕ) (form : Form) → opened ≡ Capture f c → form ≡ form_at f → Wrote o o' 0 r 65536 (lines_text hex form (frames_from file 0 c))
-      → Reported hex file o o' (record { verdict = Done; written = r; refused = 0 })
+  pub lines-reported : (f c : ℕ) (form : Form) → opened ≡ opened_as f c → form ≡ form_at f → Wrote o o' 0 r 65536 (lines_text hex form (frames_from file 0 c))
+      → Reported hex file o o' (record { verdict = Ok tt; written = r; file = Ok tt })
   lines-reported f c form e ef w =
-      reported hex file o o' (lines_text hex (form_at f) (frames_from file 0 c)) r 0 65536 room (omega arith)
+      reported hex file o o' (lines_text hex (form_at f) (frames_from file 0 c)) r (Ok tt) 65536 room (omega arith)
       (meant w (ap (λ k. lines_text hex k (frames_from file 0 c)) ef) (omega arith)) (capture-says (file_verdict file) hex file f c (sym judged ∙ e))
 
-  pub refused-reported : (why : Refusal) (n : ℕ) → opened ≡ NotOpened why → n ≡ number_of why → Wrote o o' 0 r 14 (refused_line why)
-      → Reported hex file o o' (record { verdict = Done; written = r; refused = n })
-  refused-reported why n e en w =
+  pub refused-reported : (why : Refusal) → opened ≡ Err why → Wrote o o' 0 r 14 (refused_line why)
+      → Reported hex file o o' (record { verdict = Ok tt; written = r; file = Err why })
+  refused-reported why e w =
       let s = refusal-says (file_verdict file) hex file why (sym judged ∙ e) in
-      reported hex file o o' (refused_line why) r n 14 room (omega arith) w (record { text = s.text; number = en ∙ s.number })
+      reported hex file o o' (refused_line why) r (Err why) 14 room (omega arith) w s

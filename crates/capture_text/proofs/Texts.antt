@@ -7,7 +7,7 @@ use Prim.Native.Nat.{ℕ, zero, suc, ◌+◌, ◌-◌, ◌*◌, ◌/◌, ◌%◌
 use native.Mathlib.Numerals.{add-one}
 use native.Mathlib.Omega.{arith}
 use lib.ListN.{length, get_or, take, drop, drop_of_length-le}
-use lib.Seq.{take-length, take-suc, drop-cons}
+use lib.Seq.{take-suc, drop-cons}
 use borrow.Author.Tests.{lt-ltb, le-ltb, le-leb}
 use Rattle.refusal.specs.declared.Refusal.{Refusal}
 use Rattle.refusal.specs.Numbers.{number_of}
@@ -18,12 +18,14 @@ use Rattle.frame_form.specs.declared.Form.{Form}
 use Rattle.frame.specs.declared.Packet.{Packet}
 use Rattle.frame.specs.declared.UserData.{UserData}
 use Rattle.frame.specs.declared.Route.{Route}
-use Rattle.frame.specs.declared.Read.{Read}
-use Rattle.frame.specs.declared.Read.TheVariants.{Packet as PacketRead, Route as RouteRead, Refused as NotRead}
-use Rattle.frame.specs.Packets.{kind_of, sn_of}
+use Rattle.frame.specs.Packets.{kind_of, sn_of, Read}
 use Rattle.frame.specs.Reading.{read_of}
 use Rattle.capture_text.specs.Report.{kind_text, refused_text, read_text, hex_digit, hex_byte, hex_bytes, marked, around, fault_text, line_text}
 use Rattle.capture_text.specs.Parts.{packet_text, not_read_text, refused_line, from_here, column}
+use Rattle.frame.specs.declared.Contents.TheVariants.{Packet as PacketIn, Route as RouteIn}
+use Rattle.std.specs.Prelude.{Ok, Err}
+use Rattle.refusal.specs.declared.Fault.{Fault}
+use Rattle.frame.specs.declared.Contents.{Contents}
 
 -- ---- bytes in hexadecimal
 
@@ -62,21 +64,11 @@ unfolding hex_bytes
 hex-none o bs from = none o from (3 * 0)
 
 module _ (o out out₁ bs : List ℕ) (from w w₁ i : ℕ) where
-  pub hex-room : i < length bs → length bs ≤ 4 → from + 12 ≤ length o → Wrote o out from w (3 * i) (hex_bytes (take i bs)) → Puts out out₁ w w₁ 1 (32 ∷ [])
-      → w₁ + 2 ≤ length out₁
-  hex-room h few room a b = room_after 2 (put_then a b (omega arith)) (omega arith)
-
   pub hex-turn : (out₂ : List ℕ) (w₂ : ℕ) → i < length bs → length bs ≤ 4 → from + 12 ≤ length o → Wrote o out from w (3 * i) (hex_bytes (take i bs))
       → Puts out out₁ w w₁ 1 (32 ∷ []) → Wrote out₁ out₂ w₁ w₂ 2 (hex_byte (get_or bs i 0)) → Wrote o out₂ from w₂ (3 * (i + 1)) (hex_bytes (take (i + 1) bs))
   hex-turn out₂ w₂ h few room a b c =
       meant (then (put_then a b (omega arith)) c)
       (append_assoc (hex_bytes (take i bs)) (32 ∷ []) (hex_byte (get_or bs i 0)) ∙ hex-more (take i bs) (get_or bs i 0) ∙ ap hex_bytes (grown bs i h)) (omega arith)
-
-pub hex-done : (o out bs : List ℕ) (from w i : ℕ) → i ≤ length bs → length bs ≤ i → length bs ≤ 4 → Wrote o out from w (3 * i) (hex_bytes (take i bs))
-    → Wrote o out from w 12 (hex_bytes bs)
-hex-done o out bs from w i h k few a =
-    let e : i ≡ length bs = omega arith in
-    meant a (ap (λ j. hex_bytes (take j bs)) e ∙ ap hex_bytes (take-length bs)) (omega arith)
 
 -- ---- the column of the fault
 
@@ -146,34 +138,33 @@ pub kind-written : {o o' : List ℕ} {from r m : ℕ} {p q : Packet} → p ≡ q
     → Wrote o o' from r 22 (kind_text (kind_of p))
 kind-written e h w = meant w (ap (λ k. kind_text (kind_of k)) (sym e)) h
 
-module _ {o o' : List ℕ} {from r : ℕ} {read : Read} where
-  pub packet-read : (p : Packet) (user : UserData) → read ≡ PacketRead p user → Wrote o o' from r 30 (packet_text p) → Wrote o o' from r 40 (read_text read)
+module _ {o o' : List ℕ} {from r : ℕ} {contents : Contents} where
+  pub packet-read : (p : Packet) (user : UserData) → contents ≡ PacketIn p user → Wrote o o' from r 30 (packet_text p) → Wrote o o' from r 40 (read_text (Ok contents))
   unfolding read_text
-  packet-read p user e w = meant w (ap read_text (sym e)) (omega arith)
+  packet-read p user e w = meant w (ap (λ k. read_text (Ok k)) (sym e)) (omega arith)
 
-  pub not-read : (why : Refusal) (at : ℕ) → read ≡ NotRead why at → Wrote o o' from r 9 (not_read_text why) → Wrote o o' from r 40 (read_text read)
-  unfolding read_text
-  not-read why at e w = meant w (ap read_text (sym e)) (omega arith)
-
-  pub route-read : (route : Route) → read ≡ RouteRead route → Wrote o o' from r 9 (45 ∷ 32 ∷ 82 ∷ 79 ∷ 85 ∷ 84 ∷ 69 ∷ 32 ∷ 48 ∷ [])
-      → Wrote o o' from r 40 (read_text read)
+  pub route-read : (route : Route) → contents ≡ RouteIn route → Wrote o o' from r 9 (45 ∷ 32 ∷ 82 ∷ 79 ∷ 85 ∷ 84 ∷ 69 ∷ 32 ∷ 48 ∷ [])
+      → Wrote o o' from r 40 (read_text (Ok contents))
   unfolding read_text spaced decimal digit_at
-  route-read route e w = meant w (ap read_text (sym e)) (omega arith)
+  route-read route e w = meant w (ap (λ k. read_text (Ok k)) (sym e)) (omega arith)
 
-  pub packet-fault : (frame : List ℕ) (p : Packet) (user : UserData) → read ≡ PacketRead p user → Wrote o o' from r 2 (32 ∷ 45 ∷ [])
+module _ {o o' : List ℕ} {from r : ℕ} {read : Read} where
+  pub contents-read : (contents : Contents) → read ≡ Ok contents → Wrote o o' from r 40 (read_text (Ok contents)) → Wrote o o' from r 40 (read_text read)
+  contents-read contents e w = meant w (ap read_text (sym e)) (omega arith)
+
+  pub not-read : (fault : Fault) → read ≡ Err fault → Wrote o o' from r 9 (not_read_text fault.why) → Wrote o o' from r 40 (read_text read)
+  unfolding read_text
+  not-read fault e w = meant w (ap read_text (sym e)) (omega arith)
+
+  pub read-fault : (frame : List ℕ) (contents : Contents) → read ≡ Ok contents → Wrote o o' from r 2 (32 ∷ 45 ∷ [])
       → Wrote o o' from r 35 (fault_text read frame)
   unfolding fault_text
-  packet-fault frame p user e w = meant w (ap (λ k. fault_text k frame) (sym e)) (omega arith)
+  read-fault frame contents e w = meant w (ap (λ k. fault_text k frame) (sym e)) (omega arith)
 
-  pub route-fault : (frame : List ℕ) (route : Route) → read ≡ RouteRead route → Wrote o o' from r 2 (32 ∷ 45 ∷ [])
+  pub refused-fault : (frame : List ℕ) (fault : Fault) → read ≡ Err fault → Wrote o o' from r 35 (spaced fault.at ++ around fault.at frame)
       → Wrote o o' from r 35 (fault_text read frame)
   unfolding fault_text
-  route-fault frame route e w = meant w (ap (λ k. fault_text k frame) (sym e)) (omega arith)
-
-  pub refused-fault : (frame : List ℕ) (why : Refusal) (at : ℕ) → read ≡ NotRead why at → Wrote o o' from r 35 (spaced at ++ around at frame)
-      → Wrote o o' from r 35 (fault_text read frame)
-  unfolding fault_text
-  refused-fault frame why at e w = meant w (ap (λ k. fault_text k frame) (sym e)) (omega arith)
+  refused-fault frame fault e w = meant w (ap (λ k. fault_text k frame) (sym e)) (omega arith)
 
 pub not-read-written : {o o₁ o₂ : List ℕ} {from r₁ r₂ n : ℕ} (why : Refusal) → n ≡ number_of why → from + 9 ≤ length o
     → Puts o o₁ from r₁ 3 (45 ∷ 32 ∷ 45 ∷ []) → Puts o₁ o₂ r₁ r₂ 6 (spaced n) → Wrote o o₂ from r₂ 9 (not_read_text why)

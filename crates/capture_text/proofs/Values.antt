@@ -5,7 +5,6 @@ use mathlib.Core.Bool.{true, false}
 use mathlib.Core.List.{List, [], ◌∷◌, ◌++◌}
 use Prim.Native.Nat.{ℕ}
 use Rattle.refusal.specs.declared.Refusal.TheVariants.{MessageTooLong}
-use Rattle.refusal.specs.declared.Verdict.TheVariants.{Refused}
 use Rattle.text.specs.Decimal.{digit_at, decimal, spaced}
 use Rattle.frame_form.specs.declared.Form.TheVariants.{LongUplink}
 use Rattle.frame_form.specs.Segments.{padding, whole_segments}
@@ -14,6 +13,7 @@ use Rattle.frame_reader.specs.Faults.{packet_length, length_byte, length_right, 
 use Rattle.frame_reader.specs.Reading.{read_checks}
 use Rattle.frame.specs.Reading.{read_of}
 use Rattle.capture_text.specs.Report.{kind_text, route_text, read_text, hex_digit, hex_bytes, around, fault_text, line_text, report_by}
+use Rattle.std.specs.Prelude.{Err}
 
 -- document 01's P10, a CLEAR REQUEST; its LV is 7, the seventh byte
 abbrev request : List ℕ
@@ -43,7 +43,7 @@ record Values : Type 0 where
   -- no bytes: refused with 2, and none is in the brackets: `- - 2 0 []`
   empty-column : line_text true LongUplink [] ≡ 45 ∷ 32 ∷ 45 ∷ 32 ∷ 50 ∷ 32 ∷ 48 ∷ 32 ∷ 91 ∷ 93 ∷ 10 ∷ []
   -- a file that is too long: `refused 4`
-  refused-file : report_by (Refused MessageTooLong) false [] ≡ 114 ∷ 101 ∷ 102 ∷ 117 ∷ 115 ∷ 101 ∷ 100 ∷ 32 ∷ 52 ∷ 10 ∷ []
+  refused-file : report_by (Err MessageTooLong) false [] ≡ 114 ∷ 101 ∷ 102 ∷ 117 ∷ 115 ∷ 101 ∷ 100 ∷ 32 ∷ 52 ∷ 10 ∷ []
 
 values : Values
 unfolding digit_at decimal spaced padding whole_segments packet_length length_byte length_right tail_fault first_fault read_checks read_of read_text hex_digit hex_bytes around fault_text line_text

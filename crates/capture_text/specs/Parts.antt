@@ -5,8 +5,7 @@ use Rattle.refusal.specs.declared.Refusal.{Refusal}
 use Rattle.refusal.specs.Numbers.{number_of}
 use Rattle.text.specs.Decimal.{decimal, spaced}
 use Rattle.frame.specs.declared.Packet.{Packet}
-use Rattle.frame.specs.declared.Read.{Read}
-use Rattle.frame.specs.Packets.{kind_of, sn_of}
+use Rattle.frame.specs.Packets.{kind_of, sn_of, Read}
 use Rattle.capture_text.specs.Report.{kind_text, refused_text, hex_bytes, marked, fault_text}
 
 -- the two cases of `read_text` that are not one word

@@ -3,24 +3,21 @@
 -- one line each, single blanks; for a refused file only `refused n`." A text is a list of bytes: 32
 -- is the blank, 45 the dash, 10 the line end.
 -- Assumes nothing.
-use Rattle.std.specs.Prelude.{Bool, cond, List, [], ◌∷◌, ◌++◌, ℕ, ◌+◌, ◌-◌, ◌/◌, ◌%◌, leb, ltb, length, take, drop}
+use Rattle.std.specs.Prelude.{Bool, cond, List, [], ◌∷◌, ◌++◌, ℕ, ◌+◌, ◌-◌, ◌/◌, ◌%◌, leb, ltb, length, take, drop, Ok, Err}
 use Rattle.refusal.specs.declared.Refusal.TheVariants.{MessageTooLong, OutputTooShort}
-use Rattle.refusal.specs.declared.Verdict.{Verdict}
-use Rattle.refusal.specs.declared.Verdict.TheVariants.{Done, Refused}
-use Rattle.refusal.specs.Numbers.{number_of, verdict_number, check}
+use Rattle.refusal.specs.Numbers.{number_of, check, Verdict}
 use Rattle.text.specs.Decimal.{decimal, spaced}
 use Rattle.frame_form.specs.declared.Form.{Form}
 use Rattle.frame_form.specs.Forms.{form_at}
 use Rattle.frame_kinds.specs.declared.Kind.{Kind}
 use Rattle.frame_kinds.specs.declared.Kind.TheVariants.{Data, ClearRequest, ClearConfirmation, CallRequest, CallAccept, ReceiveReady, ReceiveNotReady, Reject, Interrupt, InterruptConfirmation, Reset, ResetConfirmation}
-use Rattle.frame.specs.declared.Read.{Read}
-use Rattle.frame.specs.declared.Read.TheVariants.{Packet as PacketRead, Route as RouteRead, Refused as NotRead}
-use Rattle.frame.specs.Packets.{kind_of, sn_of}
+use Rattle.frame.specs.Packets.{kind_of, sn_of, Read}
 use Rattle.frame.specs.Reading.{read_of}
 use Rattle.capture.specs.Files.{largest_file}
 use Rattle.capture.specs.Saving.{output_by}
 use Rattle.capture.specs.Opening.{form_in, open_verdict, frames_in}
 use Rattle.capture_text.specs.declared.Report.{Report}
+use Rattle.frame.specs.declared.Contents.TheVariants.{Packet as PacketIn, Route as RouteIn}
 
 -- ---- the names
 
@@ -52,9 +49,9 @@ refused_text = 114 ∷ 101 ∷ 102 ∷ 117 ∷ 115 ∷ 101 ∷ 100 ∷ []
 
 -- SN, kind and 0; `- ROUTE 0`, since a ROUTE has no SN; or `- - n`
 unfoldable pub read_text : Read → List ℕ
-read_text (PacketRead p user) = decimal (sn_of p).0 ++ (32 ∷ (kind_text (kind_of p) ++ spaced 0))
-read_text (RouteRead r) = 45 ∷ 32 ∷ (route_text ++ spaced 0)
-read_text (NotRead why at) = 45 ∷ 32 ∷ 45 ∷ spaced (number_of why)
+read_text (Ok (PacketIn p user)) = decimal (sn_of p).0 ++ (32 ∷ (kind_text (kind_of p) ++ spaced 0))
+read_text (Ok (RouteIn r)) = 45 ∷ 32 ∷ (route_text ++ spaced 0)
+read_text (Err fault) = 45 ∷ 32 ∷ 45 ∷ spaced (number_of fault.why)
 
 -- ---- one column more, if it is asked for: where a refused frame is bad (Q-5), and the bytes there
 
@@ -84,9 +81,8 @@ around at frame =
 
 -- the column: the position and the bytes around it; a dash if the frame was read
 unfoldable pub fault_text : Read → List ℕ → List ℕ
-fault_text (PacketRead p user) frame = 32 ∷ 45 ∷ []
-fault_text (RouteRead r) frame = 32 ∷ 45 ∷ []
-fault_text (NotRead why at) frame = spaced at ++ around at frame
+fault_text (Ok contents) frame = 32 ∷ 45 ∷ []
+fault_text (Err fault) frame = spaced fault.at ++ around fault.at frame
 
 -- ---- lines
 
@@ -106,8 +102,8 @@ file_verdict file = check (leb (length file) largest_file) MessageTooLong (open_
 
 -- a line for each frame; or `refused n`
 abbrev pub report_by : Verdict → Bool → List ℕ → List ℕ
-report_by Done hex file = lines_text hex (form_at (form_in file)) (frames_in file)
-report_by (Refused why) hex file = refused_text ++ (spaced (number_of why) ++ (10 ∷ []))
+report_by (Ok tt) hex file = lines_text hex (form_at (form_in file)) (frames_in file)
+report_by (Err why) hex file = refused_text ++ (spaced (number_of why) ++ (10 ∷ []))
 
 unfoldable pub report_text : Bool → List ℕ → List ℕ
 report_text hex file = report_by (file_verdict file) hex file
@@ -124,13 +120,13 @@ report_room = 65536
 
 -- whether the call is refused: 5 if the lent output, of `room` bytes, is shorter than that (house)
 unfoldable pub room_verdict : ℕ → Verdict
-room_verdict room = check (leb report_room room) OutputTooShort Done
+room_verdict room = check (leb report_room room) OutputTooShort (Ok tt)
 
--- the answer: how many bytes were written, and the refusal number of the file, 0 if it opened; a
--- refusal of the call has 0 for both
+-- the answer: how many bytes were written, and whether the file opened; a refusal of the call has 0
+-- bytes, and tells nothing of the file
 abbrev pub answer_by : Verdict → Bool → List ℕ → Report
-answer_by Done hex file = record { verdict = Done; written = length (report_text hex file); refused = verdict_number (file_verdict file) }
-answer_by (Refused why) hex file = record { verdict = Refused why; written = 0; refused = 0 }
+answer_by (Ok tt) hex file = record { verdict = Ok tt; written = length (report_text hex file); file = file_verdict file }
+answer_by (Err why) hex file = record { verdict = Err why; written = 0; file = Ok tt }
 
 -- what `write_report` answers
 unfoldable pub report_of : Bool → List ℕ → ℕ → Report

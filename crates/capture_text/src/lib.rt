@@ -3,7 +3,7 @@
 #![tactic(auto)]
 
 ghost use Rattle.std.specs.Prelude.{◌≡◌, [], ◌∷◌, ◌++◌, ◌+◌, ◌-◌, ◌≤◌, ◌<◌, length};
-ghost use Rattle.refusal.specs.Numbers.{verdict_number};
+ghost use Rattle.refusal.specs.Numbers.{refusal_number};
 ghost use Rattle.text.specs.Decimal.{spaced};
 ghost use Rattle.text.specs.Writing.{Wrote};
 ghost use Rattle.frame.specs.Packets.{kind_of};
@@ -12,17 +12,17 @@ ghost use Rattle.capture_text.specs.Report.{kind_text, read_text, hex_digit, hex
 ghost use Rattle.capture_text.specs.Parts.{packet_text, not_read_text, refused_line, from_here, column};
 
 use capture::Opened;
-use frame::{Packet, Read, UserData};
+use frame::{Contents, Packet, UserData};
 use frame_form::Form;
-use refusal::{Refusal, Verdict};
+use refusal::{Fault, Refusal};
 
-// What the call answers: whether the report was written or refused; its length in bytes; and the
-// refusal number of the file, 0 if the file opened.
-#[derive(Clone, Copy)]
+// What the call answers: whether the report was written or refused; its length in bytes; and
+// whether the file opened.
+#[derive(Clone, Copy, Debug, PartialEq, Eq)]
 pub struct Report {
-    pub verdict: Verdict,
+    pub verdict: Result<(), Refusal>,
     pub written: usize,
-    pub refused: u8,
+    pub file: Result<(), Refusal>,
 }
 
 // Writes the report of a capture file to the front of `out`, with the column of the fault in each
@@ -30,45 +30,45 @@ pub struct Report {
 // if `out` has less than 65,536 bytes, which the report of any file fits.
 pub fn write_report(file: &[u8], hex: bool, out: &mut [u8]) -> Report
     ensures value { result ≡ report_of hex file.now (length out.old) }
-    ensures number { verdict_number result.verdict ≡ verdict_number (room_verdict (length out.old)) }
+    ensures number { refusal_number result.verdict ≡ refusal_number (room_verdict (length out.old)) }
     ensures written { out.new ≡ report_output hex file.now out.old }
     ensures inside { result.written ≤ length out.old }
 {
     if out.len() < 65536 {
         return Report {
-            verdict: Verdict::Refused(Refusal::OutputTooShort),
+            verdict: Err(Refusal::OutputTooShort),
             written: 0,
-            refused: 0,
+            file: Ok(()),
         };
     }
-    let opened = judge(file);
-    match opened {
-        Opened::Capture(form, count) => Report {
-            verdict: Verdict::Done,
-            written: put_lines(out, hex, Form::from_number(form), file, count),
-            refused: 0,
+    match judge(file) {
+        Ok(Opened { form, count }) => Report {
+            verdict: Ok(()),
+            written: put_lines(out, hex, Form::from(form), file, count),
+            file: Ok(()),
         },
-        Opened::Refused(why) => Report {
-            verdict: Verdict::Done,
+        Err(why) => Report {
+            verdict: Ok(()),
             written: put_refused(out, why),
-            refused: why.number(),
+            file: Err(why),
         },
     }
 }
 
 // Opens the file, unless it is longer than any capture: then it is refused with 4 unread.
-fn judge(file: &[u8]) -> Opened
+fn judge(file: &[u8]) -> Result<Opened, Refusal>
     ensures value { result ≡ open_by (file_verdict file.now) (form_in file.now) (count_in file.now) }
     ensures few { opened_count result ≤ 512 }
 {
     if 83980 < file.len() {
-        return Opened::Refused(Refusal::MessageTooLong);
+        return Err(Refusal::MessageTooLong);
     }
     capture::open_file(file)
 }
 
 // ---- lines. Each function below writes its text to `out` starting at `from`, and returns the
-// index after its text.
+// index after its text. The room that it requires begins at `from`, which moves with each text: a
+// type for it would be made anew at each call.
 
 // Writes the line of each frame, from the front of `out` on.
 fn put_lines(out: &mut [u8], hex: bool, form: Form, file: &[u8], count: usize) -> usize
@@ -76,11 +76,9 @@ fn put_lines(out: &mut [u8], hex: bool, form: Form, file: &[u8], count: usize) -
     ensures { Wrote out.old out.new 0 result 65536 (lines_text hex form (frames_from file.now 0 count)) }
 {
     let mut end = 0;
-    let mut i = 0;
-    while i < count {
+    for i in 0..count {
         let frame = capture::frame_of(file, i);
         end = put_line(out, end, hex, form, frame);
-        i = i + 1;
     }
     end
 }
@@ -109,14 +107,24 @@ fn put_line(out: &mut [u8], from: usize, hex: bool, form: Form, frame: &[u8]) ->
 // ---- what reading a frame answers
 
 // Writes SN, kind and number: at most 40 bytes.
-fn put_read(out: &mut [u8], from: usize, read: Read) -> usize
+fn put_read(out: &mut [u8], from: usize, read: Result<Contents, Fault>) -> usize
     requires { from + 40 ≤ length out.old }
     ensures { Wrote out.old out.new from result 40 (read_text read) }
 {
     match read {
-        Read::Packet(packet, _user) => put_packet(out, from, packet),
-        Read::Route(_route) => text::put_word(out, from, b"- ROUTE 0"),
-        Read::Refused(why, _at) => put_not_read(out, from, why),
+        Ok(contents) => put_contents(out, from, contents),
+        Err(fault) => put_not_read(out, from, fault.why),
+    }
+}
+
+// The same of a frame that was read.
+fn put_contents(out: &mut [u8], from: usize, contents: Contents) -> usize
+    requires { from + 40 ≤ length out.old }
+    ensures { Wrote out.old out.new from result 40 (read_text (Ok contents)) }
+{
+    match contents {
+        Contents::Packet(packet, _user) => put_packet(out, from, packet),
+        Contents::Route(_route) => text::put_word(out, from, b"- ROUTE 0"),
     }
 }
 
@@ -164,7 +172,13 @@ fn put_kind(out: &mut [u8], from: usize, packet: Packet) -> usize
 // ---- the column of the fault
 
 // Writes the column if it is asked for, else nothing.
-fn put_column(out: &mut [u8], from: usize, hex: bool, read: Read, frame: &[u8]) -> usize
+fn put_column(
+    out: &mut [u8],
+    from: usize,
+    hex: bool,
+    read: Result<Contents, Fault>,
+    frame: &[u8],
+) -> usize
     requires { from + 35 ≤ length out.old }
     ensures { Wrote out.old out.new from result 35 (column hex read frame.now) }
 {
@@ -175,14 +189,13 @@ fn put_column(out: &mut [u8], from: usize, hex: bool, read: Read, frame: &[u8]) 
 }
 
 // Writes the position of the fault and the bytes around it; a dash if the frame was read.
-fn put_fault(out: &mut [u8], from: usize, read: Read, frame: &[u8]) -> usize
+fn put_fault(out: &mut [u8], from: usize, read: Result<Contents, Fault>, frame: &[u8]) -> usize
     requires { from + 35 ≤ length out.old }
     ensures { Wrote out.old out.new from result 35 (fault_text read frame.now) }
 {
     match read {
-        Read::Packet(_packet, _user) => text::put_word(out, from, b" -"),
-        Read::Route(_route) => text::put_word(out, from, b" -"),
-        Read::Refused(_why, at) => put_around(out, from, at, frame),
+        Ok(_contents) => text::put_word(out, from, b" -"),
+        Err(fault) => put_around(out, from, fault.at, frame),
     }
 }
 
@@ -240,11 +253,9 @@ fn put_hex(out: &mut [u8], from: usize, bytes: &[u8]) -> usize
     ensures { Wrote out.old out.new from result 12 (hex_bytes bytes.now) }
 {
     let mut end = from;
-    let mut i = 0;
-    while i < bytes.len() {
+    for byte in bytes {
         let blank = text::put_byte(out, end, b' ');
-        end = put_hex_byte(out, blank, bytes[i]);
-        i = i + 1;
+        end = put_hex_byte(out, blank, *byte);
     }
     end
 }

@@ -10,9 +10,7 @@ use lib.Dec.{leb, eqb}
 use lib.ListN.{length, drop, get_or}
 use borrow.Author.Tests.{leb-true, le-leb, eq-eqb, eqb-true}
 use Rattle.refusal.specs.declared.Refusal.TheVariants.{OutOfRange, Malformed, FormatError, PacketTooLong}
-use Rattle.refusal.specs.declared.Verdict.{Verdict}
-use Rattle.refusal.specs.declared.Verdict.TheVariants.{Done, Refused}
-use Rattle.refusal.specs.Positions.{Checked, passed, refused_at, check_at}
+use Rattle.refusal.specs.Positions.{Checked, check_at}
 use Rattle.refusal.proofs.Checks.{both_true, at-passed}
 use Rattle.frame_fields.specs.Rows.{AreBytes}
 use Rattle.frame_fields.specs.Layouts.{fields, has_lv, within, header, free_values}
@@ -38,19 +36,20 @@ use Rattle.frame_reader.proofs.Cases.{no-fault}
 use Rattle.frame_writer.specs.Writing.{values_fit, frame_by, output_by}
 use Rattle.frame.specs.declared.Packet.{Packet}
 use Rattle.frame.specs.declared.UserData.{UserData}
-use Rattle.frame.specs.declared.Read.TheVariants.{Packet as PacketRead}
-use Rattle.frame.specs.declared.Written.TheVariants.{Done as WrittenDone}
 use Rattle.frame.specs.Packets.{kind_of, values_of, packet_of}
 use Rattle.frame.specs.Writing.{length_of, fits, frame_of, frame_verdict, written_by, write_output}
 use Rattle.frame.specs.Reading.{read_by, read_of, part_of, place_of}
 use Rattle.frame.proofs.KindLaws.{kind-made, values-made, packet-made}
-use Rattle.frame.proofs.Contents.{header-length, frame_as, values-back, content-good, free_in, free-in-range, inside, frame-fills, header-only, frame-again}
+use Rattle.frame.proofs.OneLayout.{header-length, frame_as, values-back, content-good, free_in, free-in-range, inside, frame-fills, header-only, frame-again}
+use Rattle.refusal.specs.Numbers.{Verdict}
+use Rattle.frame.specs.declared.Contents.TheVariants.{Packet as PacketIn}
+use Rattle.std.specs.Prelude.{Ok, Err}
 
 -- ---- what holds if a writer answers done
 
-pub written-done : (v : Verdict) (len n : ℕ) → written_by v len ≡ WrittenDone n → (v ≡ Done) × (len ≡ n)
-written-done Done len n e = (refl, cc)
-written-done (Refused why) len n e = let z : ◌≡◌ {A = ℕ} 0 1 = cc in absurd (omega arith)
+pub written-done : (v : Verdict) (len n : ℕ) → written_by v len ≡ Ok n → (v ≡ Ok tt) × (len ≡ n)
+written-done (Ok tt) len n e = (refl, cc)
+written-done (Err why) len n e = let z : ◌≡◌ {A = ℕ} 0 1 = cc in absurd (omega arith)
 
 -- a packet that fits has its values within their fields, and without LV it has no user data
 pub fit_parts : (form : Form) (p : Packet) (user : ℕ) → fits form p user ≡ true
@@ -90,19 +89,19 @@ module _ (form : Form) (k : Kind) (vs user : List ℕ) (fit : within (fields (la
       rw (le-leb 1 len (omega (arith, frame-size, (sound form k).bytes)), eq-eqb (len % seg_of form) 0 multiple)
 
   kind-reads : form_valid form ≡ true → (has_lv (fields (layout_of form k)) ≡ false → length user ≡ 0) → (layout_of form k).size + length user ≤ most_of form
-      → read_of form (frame_as (seg_of form) (layout_of form k) vs user) ≡ PacketRead (packet_of k vs) (record { at = (layout_of form k).size; len = length user })
+      → read_of form (frame_as (seg_of form) (layout_of form k) vs user) ≡ Ok (PacketIn (packet_of k vs) (record { at = (layout_of form k).size; len = length user }))
   unfolding read_of
   kind-reads good no-data most =
       let l = layout_of form k in
       let n = l.size + length user in
       let frame = frame_as (seg_of form) l vs user in
       let content = content-good (seg_of form) l (sound form k) (segment-some form) (segment-few form) vs user fit (λ es e. no-data e) (λ es. absurd (true≢false (sym es))) in
-      let checks : read_checks form frame ≡ passed =
+      let checks : read_checks form frame ≡ Ok tt =
       no-fault form frame good is_whole n (ap (λ (f : Found). fault_of f form frame) names-kind ∙ content.0) (ap (λ (f : Found). length_in f form frame) names-kind ∙ content.1)
-      ∙ ap (λ (b : Bool). check_at b PacketTooLong (most_of form) passed) (le-leb n (most_of form) most) in
+      ∙ ap (λ (b : Bool). check_at b PacketTooLong (most_of form) (Ok tt)) (le-leb n (most_of form) most) in
       let back : packet_length (seg_of form) l frame - l.size ≡ length user = omega (arith, content.1) in
       ap₂ (λ (c : Checked) (f : Found). read_by c f form frame) checks names-kind
-      ∙ ap₂ (λ (v : List ℕ) (m : ℕ). PacketRead (packet_of k v) (record { at = l.size; len = m })) free-is back
+      ∙ ap₂ (λ (v : List ℕ) (m : ℕ). Ok (PacketIn (packet_of k v) (record { at = l.size; len = m }))) free-is back
 
 -- ---- read, then written
 
@@ -138,22 +137,22 @@ pub record Passed (form : Form) (frame : List ℕ) : Type 0 where
   pub none : fault_of (found_in frame) form frame ≡ length frame
   pub most : length_in (found_in frame) form frame ≤ most_of form
 
-pub checks-passed : (form : Form) (frame : List ℕ) → read_checks form frame ≡ passed → Passed form frame
+pub checks-passed : (form : Form) (frame : List ℕ) → read_checks form frame ≡ Ok tt → Passed form frame
 unfolding read_checks
 checks-passed form frame e =
     let at = fault_of (found_in frame) form frame in
     let n = length_in (found_in frame) form frame in
-    let d = check_at (leb n (most_of form)) PacketTooLong (most_of form) passed in
+    let d = check_at (leb n (most_of form)) PacketTooLong (most_of form) (Ok tt) in
     let c = check_at (eqb at (length frame)) FormatError at d in
     let b = check_at (whole_segments (seg_of form) (length frame)) Malformed (length frame) c in
     let p = at-passed (form_valid form) OutOfRange 0 b e in
     let q = at-passed (whole_segments (seg_of form) (length frame)) Malformed (length frame) c p.1 in
     let r = at-passed (eqb at (length frame)) FormatError at d q.1 in
-    let s = at-passed (leb n (most_of form)) PacketTooLong (most_of form) passed r.1 in
+    let s = at-passed (leb n (most_of form)) PacketTooLong (most_of form) (Ok tt) r.1 in
     record { valid = p.0; whole = q.0; none = eqb-true at (length frame) r.0; most = leb-true n (most_of form) s.0 }
 
 -- a frame of no known kind does not
-pub never-unknown : (form : Form) (frame : List ℕ) → read_checks form frame ≡ passed → found_in frame ≡ Unknown → ⊥
+pub never-unknown : (form : Form) (frame : List ℕ) → read_checks form frame ≡ Ok tt → found_in frame ≡ Unknown → ⊥
 never-unknown form frame e ef =
     let q = checks-passed form frame e in
     let none : 0 ≡ length frame = sym (ap (λ (x : Found). fault_of x form frame) ef) ∙ q.none in
@@ -187,11 +186,11 @@ module _ (form : Form) (frame : List ℕ) (k : Kind) (valid : form_valid form �
 
 -- if the answer is a packet, all checks passed
 by-found : (form : Form) (frame : List ℕ) (p : Packet) (place : UserData) (c : Checked) (f : Found) → read_checks form frame ≡ c → found_in frame ≡ f
-    → read_by c f form frame ≡ PacketRead p place → IsFrame form frame p place
-by-found form frame p place (refused_at why at) f ec ef e = let z : ◌≡◌ {A = ℕ} 0 1 = cc in absurd (omega arith)
-by-found form frame p place passed Route ec ef e = let z : ◌≡◌ {A = ℕ} 0 1 = cc in absurd (omega arith)
-by-found form frame p place passed Unknown ec ef e = let z : ◌≡◌ {A = ℕ} 0 1 = cc in absurd (omega arith)
-by-found form frame p place passed (Known k) ec ef e =
+    → read_by c f form frame ≡ Ok (PacketIn p place) → IsFrame form frame p place
+by-found form frame p place (Err fault) f ec ef e = let z : ◌≡◌ {A = ℕ} 0 1 = cc in absurd (omega arith)
+by-found form frame p place (Ok tt) Route ec ef e = let z : ◌≡◌ {A = ℕ} 0 1 = cc in absurd (omega arith)
+by-found form frame p place (Ok tt) Unknown ec ef e = let z : ◌≡◌ {A = ℕ} 0 1 = cc in absurd (omega arith)
+by-found form frame p place (Ok tt) (Known k) ec ef e =
     let l = layout_of form k in
     let q = checks-passed form frame ec in
     let none = sym (ap (λ (x : Found). fault_of x form frame) ef) ∙ q.none in
@@ -202,7 +201,7 @@ by-found form frame p place passed (Known k) ec ef e =
     (subst (IsFrame form frame (packet_of k (free_in l frame))) at (kind-frame form frame k q.valid q.whole none most))
 
 -- every frame that reads is `IsFrame`
-pub reads-frame : (form : Form) (frame : List ℕ) (p : Packet) (place : UserData) → read_of form frame ≡ PacketRead p place → IsFrame form frame p place
+pub reads-frame : (form : Form) (frame : List ℕ) (p : Packet) (place : UserData) → read_of form frame ≡ Ok (PacketIn p place) → IsFrame form frame p place
 unfolding read_of
 reads-frame form frame p place e = by-found form frame p place (read_checks form frame) (found_in frame) refl refl e
 
@@ -216,18 +215,18 @@ frame-length form p user =
     let l = layout_of form (kind_of p) in
     framed-length (seg_of form) l.size (header l u (values_of p)) user (header-length l u (values_of p))
 
-pub output-is : (form : Form) (p : Packet) (user out : List ℕ) → frame_verdict form p (length user) (length out) ≡ Done
+pub output-is : (form : Form) (p : Packet) (user out : List ℕ) → frame_verdict form p (length user) (length out) ≡ Ok tt
     → write_output form p user out ≡ frame_of form p user ++ drop (length (frame_of form p user)) out
 unfolding write_output
 output-is form p user out e = ap (λ (v : Verdict). output_by v (frame_of form p user) out) e
 
 pub frame-reads : (form : Form) (p : Packet) (user : List ℕ) → form_valid form ≡ true → fits form p (length user) ≡ true → length_of p (length user) ≤ most_of form
-    → read_of form (frame_of form p user) ≡ PacketRead p (place_of p (length user))
+    → read_of form (frame_of form p user) ≡ Ok (PacketIn p (place_of p (length user)))
 unfolding frame_by
 frame-reads form p user good fit most =
     let f = fit_parts form p (length user) fit in
     kind-reads form (kind_of p) (values_of p) user f.0 good f.1 most
-    ∙ ap (λ (q : Packet). PacketRead q (place_of p (length user))) (packet-made p)
+    ∙ ap (λ (q : Packet). Ok (PacketIn q (place_of p (length user)))) (packet-made p)
 
 pub frame-user : (form : Form) (p : Packet) (user : List ℕ) → part_of (frame_of form p user) (place_of p (length user)) ≡ user
 unfolding frame_by

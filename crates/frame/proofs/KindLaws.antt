@@ -18,13 +18,13 @@ use Rattle.frame_form.specs.Forms.{is_uplink}
 use Rattle.frame_kinds.specs.declared.Kind.{Kind}
 use Rattle.frame_kinds.specs.declared.Kind.TheVariants.{Data as DataKind, ClearRequest as ClearRequestKind, ClearConfirmation as ClearConfirmationKind, CallRequest as CallRequestKind, CallAccept as CallAcceptKind, ReceiveReady as ReceiveReadyKind, ReceiveNotReady as ReceiveNotReadyKind, Reject as RejectKind, Interrupt as InterruptKind, InterruptConfirmation as InterruptConfirmationKind, Reset as ResetKind, ResetConfirmation as ResetConfirmationKind}
 use Rattle.frame.specs.declared.Packet.{Packet}
-use Rattle.frame.specs.declared.MaybeData.TheVariants.{Data as SomeData}
 use Rattle.frame.specs.declared.Data.{Data as DataFields}
 use Rattle.frame.specs.declared.Packet.TheVariants.{Data, ClearRequest, ClearConfirmation, CallRequest, CallAccept, ReceiveReady, ReceiveNotReady, Reject, Interrupt, InterruptConfirmation, Reset, ResetConfirmation}
 use Rattle.little.specs.Little.{flag}
 use Rattle.frame_kinds.specs.Kinds.{layout_in, layout_of, free_count, value_count}
 use Rattle.frame_kinds.proofs.Table.{count-in}
 use Rattle.frame.specs.Packets.{kind_of, values_of, packet_of, as_data}
+use Rattle.std.specs.Prelude.{Some}
 
 -- ---- flags
 
@@ -156,7 +156,7 @@ packet-same k vs ws same = sym (made_of k vs) ∙ ap (packet_of k) (values_same 
 
 -- ---- the DATA packet
 
-pub data_is : (p : Packet) (d : DataFields) → as_data p ≡ SomeData d → p ≡ Data d
+pub data_is : (p : Packet) (d : DataFields) → as_data p ≡ Some d → p ≡ Data d
 data_is (Data e) d h = cc
 data_is (ClearRequest e) d h = let z : ◌≡◌ {A = ℕ} 0 1 = cc in absurd (omega arith)
 data_is (ClearConfirmation e) d h = let z : ◌≡◌ {A = ℕ} 0 1 = cc in absurd (omega arith)
@@ -171,5 +171,5 @@ data_is (Reset e) d h = let z : ◌≡◌ {A = ℕ} 0 1 = cc in absurd (omega ar
 data_is (ResetConfirmation e) d h = let z : ◌≡◌ {A = ℕ} 0 1 = cc in absurd (omega arith)
 
 -- a packet that is DATA was made of that kind
-pub data-kind : (k : Kind) (vs : List ℕ) (d : DataFields) → as_data (packet_of k vs) ≡ SomeData d → k ≡ DataKind
+pub data-kind : (k : Kind) (vs : List ℕ) (d : DataFields) → as_data (packet_of k vs) ≡ Some d → k ≡ DataKind
 data-kind k vs d h = sym (kind-made k vs) ∙ ap kind_of (data_is (packet_of k vs) d h)

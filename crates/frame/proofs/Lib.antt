@@ -1,7 +1,7 @@
 -- What is proved of frames.
 
 pub mod KindLaws
-pub mod Contents
+pub mod OneLayout
 pub mod Frames
 pub mod Ten
 pub mod Numbers

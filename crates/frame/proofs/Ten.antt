@@ -9,14 +9,13 @@ use native.Mathlib.Omega.{arith}
 use lib.Dec.{eqb}
 use lib.ListN.{length, get_or, take, drop, replicate}
 use lib.Pow.{high, low}
-use lib.Seq.{get_or-take, take_at, drop_at}
+use lib.Seq.{take_at, drop_at}
 use borrow.Author.Tests.{eq-eqb, ne_eqb}
 use Rattle.refusal.specs.declared.Refusal.{Refusal}
+use Rattle.refusal.specs.declared.Fault.{Fault}
 use Rattle.refusal.specs.declared.Refusal.TheVariants.{OutOfRange}
-use Rattle.refusal.specs.declared.Verdict.{Verdict}
-use Rattle.refusal.specs.declared.Verdict.TheVariants.{Done, Refused}
-use Rattle.refusal.specs.Numbers.{number_of, refusal_at}
-use Rattle.refusal.specs.Positions.{Checked, passed, refused_at}
+use Rattle.refusal.specs.Numbers.{number_of, refusal_at, Verdict}
+use Rattle.refusal.specs.Positions.{Checked, refused_at}
 use Rattle.refusal.proofs.Numbers.{number-range, number-back as refusal-back}
 use Rattle.lists.specs.Lists.{over}
 use Rattle.little.specs.Little.{flag}
@@ -41,19 +40,16 @@ use Rattle.frame_writer.proofs.Answers.{ten-answer, ten-bytes}
 use Rattle.frame.specs.declared.Packet.{Packet}
 use Rattle.frame.specs.declared.Data.{Data as DataFields}
 use Rattle.frame.specs.declared.Packet.TheVariants.{Data}
-use Rattle.frame.specs.declared.MaybeData.{MaybeData}
-use Rattle.frame.specs.declared.MaybeData.TheVariants.{Nothing, Data as SomeData}
 use Rattle.frame.specs.declared.UserData.{UserData}
-use Rattle.frame.specs.declared.Read.{Read}
-use Rattle.frame.specs.declared.Read.TheVariants.{Packet as PacketRead, Route as RouteRead, Refused as NotRead}
-use Rattle.frame.specs.Packets.{kind_of, values_of, data_of, packet_of, packet_bytes, kind_or, packet_at, as_data}
+use Rattle.frame.specs.Packets.{kind_of, values_of, data_of, packet_of, packet_bytes, kind_or, packet_at, as_data, Read}
 use Rattle.frame.specs.Routes.{write_route_of, write_route_output}
-use Rattle.frame.specs.declared.DataRead.TheVariants.{Data as DataIsRead, Other as OtherRead, Refused as DataRefused}
-use Rattle.frame.specs.Reading.{route_of, place_in, read_at, read_by, read_of, data_read_by, data_read_of}
+use Rattle.frame.specs.Reading.{route_of, place_in, contents_at, read_by, read_of, data_read_by, data_read_of}
 use Rattle.frame.proofs.KindLaws.{counted, packet-same, data-kind}
-use Rattle.frame.proofs.Contents.{free_in}
+use Rattle.frame.proofs.OneLayout.{free_in}
 use Rattle.frame.proofs.Frames.{checks-passed, never-unknown}
 use Rattle.frame.specs.Writing.{length_of, fits, frame_of, frame_verdict, written_by, written_at, write_of, write_output}
+use Rattle.frame.specs.declared.Contents.TheVariants.{Packet as PacketIn, Route as RouteIn}
+use Rattle.std.specs.Prelude.{Ok, Err, Option, Some, None}
 
 -- ---- writing
 
@@ -78,18 +74,18 @@ ten p = ten-length (kind_number (kind_of p)) (values_of p) (omega (arith, counte
 -- the answer's number gives the answer
 written_back : (v : Verdict) (len : ℕ) → written_at (answer_by v len) ≡ written_by v len
 unfolding written_at
-written_back Done len =
+written_back (Ok tt) len =
     let z : (0 + 256 * len) % 256 ≡ 0 = omega arith in
     let n : (0 + 256 * len) / 256 ≡ len = omega arith in
     rw (eq-eqb ((0 + 256 * len) % 256) 0 z, n)
-written_back (Refused why) len =
+written_back (Err why) len =
     let r = number-range why in
     let e : (number_of why + 256 * 0) % 256 ≡ number_of why = omega (arith, r.1) in
     let some : (number_of why + 256 * 0) % 256 ≡ 0 → ⊥ = λ z. omega (arith, e, z, r.0) in
     rw (ne_eqb ((number_of why + 256 * 0) % 256) 0 some, e, refusal-back why)
 
 -- no form but a valid one is written
-no-form : (form : Form) (fit : Bool) (n room : ℕ) (len : ℕ) → form_valid form ≡ false → written_by (write_verdict form fit n room) len ≡ written_by (Refused OutOfRange) len
+no-form : (form : Form) (fit : Bool) (n room : ℕ) (len : ℕ) → form_valid form ≡ false → written_by (write_verdict form fit n room) len ≡ written_by (Err OutOfRange) len
 unfolding write_verdict
 no-form form fit n room len e = rw e
 
@@ -205,18 +201,18 @@ packet-back k vs =
     ap (λ (f : Found). packet_of (kind_or f) (vs ++ replicate (9 - length vs) 0)) (number-back k)
     ∙ packet-same k (vs ++ replicate (9 - length vs) 0) vs (λ j l. pad-get vs (9 - length vs) j)
 
-known_at : (k : Kind) (vs : List ℕ) (user : UserData) → read_at (ten_bytes k vs) user ≡ PacketRead (packet_of k vs) user
-unfolding read_at ten_of
-known_at k vs user = rw (not-route k) (ap (λ (p : Packet). PacketRead p user) (packet-back k vs))
+known_at : (k : Kind) (vs : List ℕ) (user : UserData) → contents_at (ten_bytes k vs) user ≡ PacketIn (packet_of k vs) user
+unfolding contents_at ten_of
+known_at k vs user = rw (not-route k) (ap (λ (p : Packet). PacketIn p user) (packet-back k vs))
 
-route-at : (frame : List ℕ) (user : UserData) → read_at (ten_of route_number (free_in route_layout frame)) user ≡ RouteRead (route_of (free_in route_layout frame) user.len)
-unfolding read_at ten_of
+route-at : (frame : List ℕ) (user : UserData) → contents_at (ten_of route_number (free_in route_layout frame)) user ≡ RouteIn (route_of (free_in route_layout frame) user.len)
+unfolding contents_at ten_of
 route-at frame user = refl
 
 -- the answer, from what `frame_reader` answered and wrote
 abbrev pub answer_at : ℕ → List ℕ → ℕ → Read
 answer_at answer bytes at =
-    cond (eqb (answer % 256) 0) (read_at bytes (place_in answer)) (NotRead (refusal_at (answer % 256)) at)
+    cond (eqb (answer % 256) 0) (Ok (contents_at bytes (place_in answer))) (refused_at (refusal_at (answer % 256)) at)
 
 -- a place, from the number
 placed : (size m : ℕ) → size ≤ 7 → let a = 256 * (size + 256 * m) in (a % 256 ≡ 0) × (a / 256 % 256 ≡ size) × (a / 65536 ≡ m)
@@ -239,7 +235,7 @@ module _ (form : Form) (frame : List ℕ) where
       go false e = form-refused (form_at code) frame (code-none form e) ∙ sym (form-refused form frame e)
 
   refused-back : (why : Refusal) (at : ℕ) (bytes : List ℕ) → read_checks form frame ≡ refused_at why at
-      → answer_at (read_answer code frame 10) bytes (fault_answer code frame) ≡ NotRead why at
+      → answer_at (read_answer code frame 10) bytes (fault_answer code frame) ≡ refused_at why at
   refused-back why at bytes e =
       let c = same-checks ∙ e in
       let r = number-range why in
@@ -249,10 +245,10 @@ module _ (form : Form) (frame : List ℕ) where
       ∙ rw (ne_eqb (number_of why % 256) 0 some, small, refusal-back why)
 
   -- what passes gives ten bytes and a place
-  passed-back : (found : Found) (n : ℕ) (vs : List ℕ) → found_in frame ≡ found → read_checks form frame ≡ passed → header_length found ≤ 7 → length vs ≤ 9
+  passed-back : (found : Found) (n : ℕ) (vs : List ℕ) → found_in frame ≡ found → read_checks form frame ≡ Ok tt → header_length found ≤ 7 → length vs ≤ 9
       → packet_in found (form_at code) frame ≡ ten_of n vs
       → answer_at (read_answer code frame 10) (read_bytes code frame (replicate 10 0)) (fault_answer code frame)
-      ≡ read_at (ten_of n vs) (record { at = header_length found; len = user_length found form frame })
+      ≡ Ok (contents_at (ten_of n vs) (record { at = header_length found; len = user_length found form frame }))
   passed-back found n vs f e few nine ten =
       let c = same-checks ∙ e in
       let valid = (checks-passed form frame e).valid in
@@ -273,13 +269,13 @@ module _ (form : Form) (frame : List ℕ) where
     where
       go : (c : Checked) (f : Found) → read_checks form frame ≡ c → found_in frame ≡ f
           → answer_at (read_answer code frame 10) (read_bytes code frame (replicate 10 0)) (fault_answer code frame) ≡ read_by c f form frame
-      go (refused_at why at) f ec ef = refused-back why at _ ec
-      go passed (Known k) ec ef =
+      go (Err fault) f ec ef = refused-back fault.why fault.at _ ec
+      go (Ok tt) (Known k) ec ef =
           let vs = values_as (Known k) form frame in
           passed-back (Known k) (kind_number k) vs ef ec (header-few k).1 (values-nine (is_uplink form) k _) (ap (ten_bytes k) (same-values (Known k) (checks-passed form frame ec).valid))
-          ∙ known_at k vs (record { at = size_of k; len = user_length (Known k) form frame })
-      go passed Route ec ef = passed-back Route route_number (values_as Route form frame) ef ec (omega arith) (omega arith) refl ∙ route-at frame _
-      go passed Unknown ec ef = absurd (never-unknown form frame ec ef)
+          ∙ ap Ok (known_at k vs (record { at = size_of k; len = user_length (Known k) form frame }))
+      go (Ok tt) Route ec ef = passed-back Route route_number (values_as Route form frame) ef ec (omega arith) (omega arith) refl ∙ ap Ok (route-at frame _)
+      go (Ok tt) Unknown ec ef = absurd (never-unknown form frame ec ef)
 
 -- ---- the same, in the shape of the code's facts
 
@@ -301,21 +297,17 @@ wrote-bytes form p user out number bytes r last en eb er el =
     (el ∙ ap₂ (λ (n : ℕ) (b : List ℕ). write_bytes n b user out) en eb)
 
 -- ten bytes whose first is 0 are DATA
-first-data : (bytes : List ℕ) (place : UserData) → get_or bytes 0 0 ≡ 0 → data_read_of (read_at bytes place) ≡ DataIsRead (data_of (drop 1 bytes)) place
-unfolding read_at packet_at kind_at
+first-data : (bytes : List ℕ) (place : UserData) → get_or bytes 0 0 ≡ 0 → data_read_of (Ok (contents_at bytes place)) ≡ Ok (Some ((data_of (drop 1 bytes)), place))
+unfolding contents_at packet_at kind_at
 first-data bytes place z = rw z
 
--- the fields of DATA are among the first nine bytes
-data-front : (xs : List ℕ) → data_of (take 9 xs) ≡ data_of xs
-data-front xs = simp (get_or-take 9 xs 0 0 (omega arith), get_or-take 9 xs 1 0 (omega arith), get_or-take 9 xs 2 0 (omega arith), get_or-take 9 xs 3 0 (omega arith), get_or-take 9 xs 4 0 (omega arith))
-
 -- and no other kind has that number
-other-kind : (k : Kind) (vs : List ℕ) (place : UserData) → (kind_number k ≡ 0 → ⊥) → OtherRead ≡ data_read_of (PacketRead (packet_of k vs) place)
+other-kind : (k : Kind) (vs : List ℕ) (place : UserData) → (kind_number k ≡ 0 → ⊥) → Ok None ≡ data_read_of (Ok (PacketIn (packet_of k vs) place))
 other-kind k vs place h = go (as_data (packet_of k vs)) refl
   where
-    go : (x : MaybeData) → as_data (packet_of k vs) ≡ x → OtherRead ≡ data_read_by x place
-    go Nothing e = refl
-    go (SomeData d) e = absurd (h (ap kind_number (data-kind k vs d e)))
+    go : (x : Option DataFields) → as_data (packet_of k vs) ≡ x → Ok None ≡ data_read_by x place
+    go None e = refl
+    go (Some d) e = absurd (h (ap kind_number (data-kind k vs d e)))
 
 module _ (form : Form) (frame : List ℕ) (number answer : ℕ) (bytes : List ℕ) (en : number ≡ form_code form) (ea : answer ≡ read_answer number frame 10)
     (eb : bytes ≡ read_bytes number frame (replicate 10 0)) where
@@ -325,42 +317,45 @@ module _ (form : Form) (frame : List ℕ) (number answer : ℕ) (bytes : List �
       ∙ ap₂ (λ (b : List ℕ) (x : ℕ). answer_at (read_answer (form_code form) frame 10) b x) (eb ∙ ap (λ (n : ℕ). read_bytes n frame (replicate 10 0)) en) (ef ∙ ap (λ (n : ℕ). fault_answer n frame) en)
       ∙ read_back form frame
 
-  pub read_done : (r : Read) → answer % 256 ≡ 0 → r ≡ read_at bytes (place_in answer) → r ≡ read_of form frame
+  pub read_done : (r : Read) → answer % 256 ≡ 0 → r ≡ Ok (contents_at bytes (place_in answer)) → r ≡ read_of form frame
   read_done r e er =
       er
-      ∙ sym (ap (λ (b : Bool). cond b (read_at bytes (place_in answer)) (NotRead (refusal_at (answer % 256)) (fault_answer number frame))) (eq-eqb (answer % 256) 0 e))
+      ∙ sym (ap (λ (b : Bool). cond b (Ok (contents_at bytes (place_in answer))) (refused_at (refusal_at (answer % 256)) (fault_answer number frame))) (eq-eqb (answer % 256) 0 e))
       ∙ as_read (fault_answer number frame) refl
 
-  pub read-refused : (why : Refusal) (at : ℕ) → (answer % 256 ≡ 0 → ⊥) → why ≡ refusal_at (answer % 256) → at ≡ fault_answer number frame → NotRead why at ≡ read_of form frame
-  read-refused why at e ew ef =
-      ap (λ (x : Refusal). NotRead x at) ew
-      ∙ sym (ap (λ (b : Bool). cond b (read_at bytes (place_in answer)) (NotRead (refusal_at (answer % 256)) at)) (ne_eqb (answer % 256) 0 e))
-      ∙ as_read at ef
+  abbrev told : Fault
+  told = record { why = refusal_at (answer % 256); at = fault_answer number frame }
+
+  pub read-refused : (fault : Fault) → (answer % 256 ≡ 0 → ⊥) → fault ≡ told → Err fault ≡ read_of form frame
+  read-refused fault e ef =
+      ap Err ef
+      ∙ sym (ap (λ (b : Bool). cond b (Ok (contents_at bytes (place_in answer))) (Err told)) (ne_eqb (answer % 256) 0 e))
+      ∙ as_read (fault_answer number frame) refl
 
   -- the same, of DATA alone
-  pub data-done : (d : DataFields) → answer % 256 ≡ 0 → get_or bytes 0 0 ≡ 0 → d ≡ data_of (take 9 (drop 1 bytes))
-      → DataIsRead d (place_in answer) ≡ data_read_of (read_of form frame)
+  pub data-done : (d : DataFields) → answer % 256 ≡ 0 → get_or bytes 0 0 ≡ 0 → d ≡ data_of (drop 1 bytes)
+      → Ok (Some (d, (place_in answer))) ≡ data_read_of (read_of form frame)
   data-done d e z ed =
       let place : UserData = place_in answer in
-      ap (λ (x : DataFields). DataIsRead x place) (ed ∙ data-front (drop 1 bytes)) ∙ sym (first-data bytes place z) ∙ ap data_read_of (read_done (read_at bytes place) e refl)
+      ap (λ (x : DataFields). Ok (Some (x, place))) ed ∙ sym (first-data bytes place z) ∙ ap data_read_of (read_done (Ok (contents_at bytes place)) e refl)
 
-  pub data-refused : (why : Refusal) (at : ℕ) → (answer % 256 ≡ 0 → ⊥) → why ≡ refusal_at (answer % 256) → at ≡ fault_answer number frame → DataRefused why at ≡ data_read_of (read_of form frame)
-  data-refused why at e ew ef = ap data_read_of (read-refused why at e ew ef)
+  pub data-refused : (fault : Fault) → (answer % 256 ≡ 0 → ⊥) → fault ≡ told → Err fault ≡ data_read_of (read_of form frame)
+  data-refused fault e ef = ap data_read_of (read-refused fault e ef)
 
-  first_byte : (k : Kind) → read_checks form frame ≡ passed → found_in frame ≡ Known k → get_or bytes 0 0 ≡ kind_number k
+  first_byte : (k : Kind) → read_checks form frame ≡ Ok tt → found_in frame ≡ Known k → get_or bytes 0 0 ≡ kind_number k
   unfolding ten_of
   first_byte k ec ef =
       ap (λ (l : List ℕ). get_or l 0 0)
       (eb ∙ ap (λ (n : ℕ). read_bytes n frame (replicate 10 0)) en ∙ passed-bytes (form_code form) frame (same-checks form frame ∙ ec) (Known k) (replicate 10 0) ef (omega arith))
 
-  pub data-other : answer % 256 ≡ 0 → (get_or bytes 0 0 ≡ 0 → ⊥) → OtherRead ≡ data_read_of (read_of form frame)
+  pub data-other : answer % 256 ≡ 0 → (get_or bytes 0 0 ≡ 0 → ⊥) → Ok None ≡ data_read_of (read_of form frame)
   unfolding read_of
   data-other e some = go (read_checks form frame) (found_in frame) refl refl
     where
-      go : (c : Checked) (f : Found) → read_checks form frame ≡ c → found_in frame ≡ f → OtherRead ≡ data_read_of (read_by c f form frame)
-      go (refused_at why at) f ec ef =
-          let refused : answer ≡ number_of why = ea ∙ ap (λ (n : ℕ). read_answer n frame 10) en ∙ refused-answer (form_code form) frame why at (same-checks form frame ∙ ec) 10 in
-          absurd (omega (arith, e, refused, number-range why))
-      go passed (Known k) ec ef = other-kind k _ _ (λ z. some (first_byte k ec ef ∙ z))
-      go passed Route ec ef = refl
-      go passed Unknown ec ef = absurd (never-unknown form frame ec ef)
+      go : (c : Checked) (f : Found) → read_checks form frame ≡ c → found_in frame ≡ f → Ok None ≡ data_read_of (read_by c f form frame)
+      go (Err fault) f ec ef =
+          let refused : answer ≡ number_of fault.why = ea ∙ ap (λ (n : ℕ). read_answer n frame 10) en ∙ refused-answer (form_code form) frame fault.why fault.at (same-checks form frame ∙ ec) 10 in
+          absurd (omega (arith, e, refused, number-range fault.why))
+      go (Ok tt) (Known k) ec ef = other-kind k _ _ (λ z. some (first_byte k ec ef ∙ z))
+      go (Ok tt) Route ec ef = refl
+      go (Ok tt) Unknown ec ef = absurd (never-unknown form frame ec ef)

@@ -2,7 +2,8 @@
 -- A packet is its kind and the values of the free fields of the kind's layout, in their order;
 -- `frame_kinds` has the layouts. One record serves both directions of a CALL packet.
 -- Assumes nothing.
-use Rattle.std.specs.Prelude.{List, [], ◌∷◌, ℕ, eqb, get_or, drop}
+use Rattle.std.specs.Prelude.{List, [], ◌∷◌, ℕ, eqb, get_or, drop, Result, Option, Some, None}
+use Rattle.refusal.specs.declared.Fault.{Fault}
 use Rattle.sequence.specs.declared.LinkNumber.{LinkNumber}
 use Rattle.sequence.specs.Numbers.{link, packet}
 use Rattle.little.specs.Little.{flag}
@@ -20,10 +21,13 @@ use Rattle.frame.specs.declared.FlowControl.{FlowControl as FlowControlFields}
 use Rattle.frame.specs.declared.Interrupt.{Interrupt as InterruptFields}
 use Rattle.frame.specs.declared.Confirmation.{Confirmation as ConfirmationFields}
 use Rattle.frame.specs.declared.Reset.{Reset as ResetFields}
-use Rattle.frame.specs.declared.MaybeData.{MaybeData}
-use Rattle.frame.specs.declared.MaybeData.TheVariants.{Nothing, Data as SomeData}
 use Rattle.frame.specs.declared.Packet.{Packet}
+use Rattle.frame.specs.declared.Contents.{Contents}
 use Rattle.frame.specs.declared.Packet.TheVariants.{Data, ClearRequest, ClearConfirmation, CallRequest, CallAccept, ReceiveReady, ReceiveNotReady, Reject, Interrupt, InterruptConfirmation, Reset, ResetConfirmation}
+
+-- what reading a frame answers: what the frame contains, or a refusal and the position of the fault
+abbrev pub Read : Type 0
+Read = Result Contents Fault
 
 -- ---- a packet as its kind and the values of its free fields
 
@@ -104,19 +108,19 @@ packet_of ResetConfirmationKind vs = ResetConfirmation (confirmation_of vs)
 -- ---- questions about a packet of any kind
 
 -- the packet if it is DATA, else nothing
-abbrev pub as_data : Packet → MaybeData
-as_data (Data d) = SomeData d
-as_data (ClearRequest d) = Nothing
-as_data (ClearConfirmation d) = Nothing
-as_data (CallRequest d) = Nothing
-as_data (CallAccept d) = Nothing
-as_data (ReceiveReady d) = Nothing
-as_data (ReceiveNotReady d) = Nothing
-as_data (Reject d) = Nothing
-as_data (Interrupt d) = Nothing
-as_data (InterruptConfirmation d) = Nothing
-as_data (Reset d) = Nothing
-as_data (ResetConfirmation d) = Nothing
+abbrev pub as_data : Packet → Option DataFields
+as_data (Data d) = Some d
+as_data (ClearRequest d) = None
+as_data (ClearConfirmation d) = None
+as_data (CallRequest d) = None
+as_data (CallAccept d) = None
+as_data (ReceiveReady d) = None
+as_data (ReceiveNotReady d) = None
+as_data (Reject d) = None
+as_data (Interrupt d) = None
+as_data (InterruptConfirmation d) = None
+as_data (Reset d) = None
+as_data (ResetConfirmation d) = None
 
 -- its link sequence number
 abbrev pub sn_of : Packet → LinkNumber

@@ -4,37 +4,29 @@
 -- definitions of `frame_writer`. `user` is the user data or its length, `room` the length of the
 -- output.
 -- Assumes nothing.
-use Rattle.std.specs.Prelude.{Bool, cond, List, ℕ, ◌/◌, ◌%◌, eqb, length}
-use Rattle.refusal.specs.declared.Verdict.{Verdict}
-use Rattle.refusal.specs.declared.Verdict.TheVariants.{Done, Refused}
-use Rattle.refusal.specs.Numbers.{number_of, refusal_at}
+use Rattle.std.specs.Prelude.{Bool, cond, List, ℕ, ◌/◌, ◌%◌, eqb, length, Result, Ok, Err}
+use Rattle.refusal.specs.Numbers.{refusal_at, Verdict}
 use Rattle.frame_form.specs.declared.Form.{Form}
 use Rattle.frame_form.specs.Forms.{seg_of}
 use Rattle.frame_form.specs.Segments.{frame_length}
 use Rattle.frame_writer.specs.Writing.{packet_size, values_fit, frame_by, write_verdict, output_by}
 use Rattle.frame.specs.declared.Packet.{Packet}
-use Rattle.frame.specs.declared.Written.{Written}
-use Rattle.frame.specs.declared.Written.TheVariants.{Done as WrittenDone, Refused as NotWritten}
 use Rattle.frame.specs.Packets.{kind_of, values_of}
-
--- the refusal number of a writer's answer; 0 is done
-abbrev pub written_number : Written → ℕ
-written_number (WrittenDone n) = 0
-written_number (NotWritten why) = number_of why
+use Rattle.refusal.specs.declared.Refusal.{Refusal}
 
 -- the length of the frame that a writer wrote; a refusal returns "counts of 0"
-abbrev pub written_bytes : Written → ℕ
-written_bytes (WrittenDone n) = n
-written_bytes (NotWritten why) = 0
+abbrev pub written_bytes : Result ℕ Refusal → ℕ
+written_bytes (Ok n) = n
+written_bytes (Err why) = 0
 
 -- the answer of writing, from the verdict of the checks and the length of the frame
-abbrev pub written_by : Verdict → ℕ → Written
-written_by Done len = WrittenDone len
-written_by (Refused why) len = NotWritten why
+abbrev pub written_by : Verdict → ℕ → Result ℕ Refusal
+written_by (Ok tt) len = Ok len
+written_by (Err why) len = Err why
 
 -- the answer of writing, from that of `frame_writer`
-unfoldable pub written_at : ℕ → Written
-written_at answer = cond (eqb (answer % 256) 0) (WrittenDone (answer / 256)) (NotWritten (refusal_at (answer % 256)))
+unfoldable pub written_at : ℕ → Result ℕ Refusal
+written_at answer = cond (eqb (answer % 256) 0) (Ok (answer / 256)) (Err (refusal_at (answer % 256)))
 
 -- the packet's length in bytes: the header and `user` bytes of user data
 abbrev pub length_of : Packet → ℕ → ℕ
@@ -53,7 +45,7 @@ abbrev pub frame_verdict : Form → Packet → ℕ → ℕ → Verdict
 frame_verdict form p user room = write_verdict form (fits form p user) (length_of p user) room
 
 -- the answer: the frame's length, or the refusal
-unfoldable pub write_of : Form → Packet → ℕ → ℕ → Written
+unfoldable pub write_of : Form → Packet → ℕ → ℕ → Result ℕ Refusal
 write_of form p user room = written_by (frame_verdict form p user room) (frame_length (seg_of form) (length_of p user))
 
 -- the lent output afterwards: the frame and what was beyond it; unchanged after a refusal

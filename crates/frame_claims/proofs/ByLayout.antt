@@ -17,19 +17,20 @@ use Rattle.frame_kinds.specs.Kinds.{layout_of}
 use Rattle.frame_writer.specs.Writing.{frame_by}
 use Rattle.frame.specs.declared.Packet.{Packet}
 use Rattle.frame.specs.declared.UserData.{UserData}
-use Rattle.frame.specs.declared.Read.TheVariants.{Packet as PacketRead}
 use Rattle.frame.specs.Packets.{kind_of, values_of}
 use Rattle.frame.specs.Writing.{length_of, fits, frame_of}
 use Rattle.frame.specs.Reading.{read_of, part_of}
 use Rattle.frame.proofs.Frames.{reads-frame, frame-reads, frame-user}
 use Rattle.frame_claims.specs.ByLayout.{CanHold, ReadIsFrame, FrameIsRead, ByLayout}
+use Rattle.frame.specs.declared.Contents.TheVariants.{Packet as PacketIn}
+use Rattle.std.specs.Prelude.{Ok}
 
 -- the user data of a frame that reads is as long as its place says
-pub part_length : (form : Form) (frame : List ℕ) (p : Packet) (place : UserData) → read_of form frame ≡ PacketRead p place → length (part_of frame place) ≡ place.len
+pub part_length : (form : Form) (frame : List ℕ) (p : Packet) (place : UserData) → read_of form frame ≡ Ok (PacketIn p place) → length (part_of frame place) ≡ place.len
 part_length form frame p place e =
     length-take-le place.len (drop place.at frame) (simp length-drop (omega (arith, (reads-frame form frame p place e).within-frame)))
 
-read-is-frame : (form : Form) (frame : List ℕ) (p : Packet) (place : UserData) → AreBytes frame → read_of form frame ≡ PacketRead p place → ReadIsFrame form frame p place
+read-is-frame : (form : Form) (frame : List ℕ) (p : Packet) (place : UserData) → AreBytes frame → read_of form frame ≡ Ok (PacketIn p place) → ReadIsFrame form frame p place
 read-is-frame form frame p place bytes e =
     let f = reads-frame form frame p place e in
     let len = part_length form frame p place e in

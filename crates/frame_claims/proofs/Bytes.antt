@@ -11,10 +11,8 @@ use lib.ListN.{length, get_or, take, drop}
 use lib.Seq.{take_at}
 use borrow.Author.Tests.{leb-true, eqb-true, eq-eqb}
 use Rattle.refusal.specs.declared.Refusal.TheVariants.{OutOfRange, OutputTooShort}
-use Rattle.refusal.specs.declared.Verdict.{Verdict}
-use Rattle.refusal.specs.declared.Verdict.TheVariants.{Done, Refused}
-use Rattle.refusal.specs.Numbers.{number_of, check}
-use Rattle.refusal.specs.Positions.{Checked, passed, refused_at}
+use Rattle.refusal.specs.Numbers.{number_of, check, Verdict, refusal_number}
+use Rattle.refusal.specs.Positions.{Checked}
 use Rattle.refusal.proofs.Numbers.{number-range}
 use Rattle.lists.specs.Lists.{over}
 use Rattle.frame_fields.specs.Rows.{AreBytes}
@@ -34,14 +32,11 @@ use Rattle.frame_writer.specs.Writing.{packet_size, frame_by, write_verdict, out
 use Rattle.frame_writer.proofs.Answers.{ten-answer, ten-bytes}
 use Rattle.frame.specs.declared.Packet.{Packet}
 use Rattle.frame.specs.declared.UserData.{UserData}
-use Rattle.frame.specs.declared.Written.{Written}
-use Rattle.frame.specs.declared.Written.TheVariants.{Done as WrittenDone, Refused as NotWritten}
-use Rattle.frame.specs.declared.Read.TheVariants.{Packet as PacketRead}
 use Rattle.frame.specs.Packets.{kind_of, values_of, packet_of, packet_bytes, packet_at}
-use Rattle.frame.specs.Writing.{written_number, written_bytes, written_by, length_of, frame_of, frame_verdict, write_of, write_output}
+use Rattle.frame.specs.Writing.{written_bytes, written_by, length_of, frame_of, frame_verdict, write_of, write_output}
 use Rattle.frame.specs.Reading.{read_by, read_of, part_of, place_of}
 use Rattle.frame.proofs.KindLaws.{kind-made, values-made}
-use Rattle.frame.proofs.Contents.{free_in, free-in-range}
+use Rattle.frame.proofs.OneLayout.{free_in, free-in-range}
 use Rattle.frame.proofs.Frames.{reads-frame, never-unknown}
 use Rattle.frame_claims.specs.ByLayout.{CanHold}
 use Rattle.frame_claims.specs.Bytes.{frame_written, user_named, BytesRead, BytesWritten, BytesAreFrame, FrameIsBytes, NoRoute, ReadBackOfBytes}
@@ -49,16 +44,19 @@ use Rattle.frame_claims.proofs.ByLayout.{part_length, by_layout}
 use Rattle.frame_claims.proofs.ReadBack.{read_back}
 use Rattle.frame.proofs.Ten.{places-values}
 use Rattle.frame_claims.proofs.Stored.{round-trips}
+use Rattle.frame.specs.declared.Contents.TheVariants.{Packet as PacketIn}
+use Rattle.std.specs.Prelude.{Result, Ok, Err}
+use Rattle.refusal.specs.declared.Refusal.{Refusal}
 
 -- ---- a call of `write`
 
 -- a writer's answer as one number
-abbrev pub written_answer : Written → ℕ
-written_answer w = written_number w + 256 * written_bytes w
+abbrev pub written_answer : (Result ℕ Refusal) → ℕ
+written_answer w = refusal_number w + 256 * written_bytes w
 
 one_number : (v : Verdict) (len : ℕ) → answer_by v len ≡ written_answer (written_by v len)
-one_number Done len = refl
-one_number (Refused why) len = refl
+one_number (Ok tt) len = refl
+one_number (Err why) len = refl
 
 -- the values are the first of the nine bytes after the first
 values-first : (p : Packet) → take (value_count (kind_of p)) (drop 1 (packet_bytes p)) ≡ values_of p
@@ -93,12 +91,12 @@ record Wrote (form : ℕ) (bytes : List ℕ) (user room : ℕ) : Type 0 where
   p : Packet
   n : ℕ
   taken : packet_bytes p ≡ bytes
-  done : write_of (form_at form) p user room ≡ WrittenDone n
+  done : write_of (form_at form) p user room ≡ Ok n
 
 -- a writer's answer with the number 0 is done
-written-done : (w : Written) → written_answer w % 256 ≡ 0 → (n : ℕ) × (w ≡ WrittenDone n)
-written-done (WrittenDone n) h = (n, refl)
-written-done (NotWritten why) h = absurd (omega (arith, number-range why))
+written-done : (w : (Result ℕ Refusal)) → written_answer w % 256 ≡ 0 → (n : ℕ) × (w ≡ Ok n)
+written-done (Ok n) h = (n, refl)
+written-done (Err why) h = absurd (omega (arith, number-range why))
 
 -- and its values fit
 done-fits : (form : Form) (b : Bool) (n room len : ℕ) → answer_by (write_verdict form b n room) len % 256 ≡ 0 → b ≡ true
@@ -106,7 +104,7 @@ unfolding write_verdict
 done-fits form true n room len h = refl
 done-fits form false n room len h = go (form_valid form) h
   where
-    go : (v : Bool) → answer_by (check v OutOfRange (Refused OutOfRange)) len % 256 ≡ 0 → ◌≡◌ {A = Bool} false true
+    go : (v : Bool) → answer_by (check v OutOfRange (Err OutOfRange)) len % 256 ≡ 0 → ◌≡◌ {A = Bool} false true
     go true e = absurd (omega (arith, e))
     go false e = absurd (omega (arith, e))
 
@@ -147,12 +145,12 @@ by-room : (b : Bool) (n : ℕ) → cond b (256 * n) (number_of OutputTooShort) %
 by-room true n h = refl
 by-room false n h = absurd (omega arith)
 
-by-checks : (c : Checked) (start user places : ℕ) → read_answer_by c start user places % 256 ≡ 0 → (c ≡ passed) × (10 ≤ places)
-by-checks passed start user places h = (refl, leb-true 10 places (by-room (leb 10 places) (start + 256 * user) h))
-by-checks (refused_at why at) start user places h = absurd (omega (arith, number-range why))
+by-checks : (c : Checked) (start user places : ℕ) → read_answer_by c start user places % 256 ≡ 0 → (c ≡ Ok tt) × (10 ≤ places)
+by-checks (Ok tt) start user places h = (refl, leb-true 10 places (by-room (leb 10 places) (start + 256 * user) h))
+by-checks (Err fault) start user places h = absurd (omega (arith, number-range fault.why))
 
 -- the frame passed the checks, and there were ten places
-pub read_done : (form : ℕ) (frame : List ℕ) (places : ℕ) → read_answer form frame places % 256 ≡ 0 → (read_checks (form_at form) frame ≡ passed) × (10 ≤ places)
+pub read_done : (form : ℕ) (frame : List ℕ) (places : ℕ) → read_answer form frame places % 256 ≡ 0 → (read_checks (form_at form) frame ≡ Ok tt) × (10 ≤ places)
 unfolding read_answer
 read_done form frame places h = by-checks (read_checks (form_at form) frame) (header_length (found_in frame)) (user_length (found_in frame) (form_at form) frame) places h
 
@@ -160,7 +158,7 @@ read_done form frame places h = by-checks (read_checks (form_at form) frame) (he
 record WasRead (form : ℕ) (frame : List ℕ) (places : ℕ) : Type 0 where
   p : Packet
   place : UserData
-  reads : read_of (form_at form) frame ≡ PacketRead p place
+  reads : read_of (form_at form) frame ≡ Ok (PacketIn p place)
   room : 10 ≤ places
 
 module _ (form : ℕ) (frame places : List ℕ) (h : read_answer form frame (length places) % 256 ≡ 0) where
@@ -190,7 +188,7 @@ module _ (form : ℕ) (frame places : List ℕ) (h : read_answer form frame (len
   unfolding read_of
   was_read none = go (found_in frame) refl
     where
-      d : (read_checks (form_at form) frame ≡ passed) × (10 ≤ length places)
+      d : (read_checks (form_at form) frame ≡ Ok tt) × (10 ≤ length places)
       d = read_done form frame (length places) h
 
       go : (f : Found) → found_in frame ≡ f → WasRead form frame (length places)
@@ -209,7 +207,7 @@ module _ (form : ℕ) (frame places : List ℕ) (room : 10 ≤ length places) wh
   abbrev Gives : Packet → UserData → Type 0
   Gives p place = (256 * (place.at + 256 * place.len) ≡ read_answer form frame (length places)) × (over (packet_bytes p) places ≡ read_bytes form frame places)
 
-  of-kind : (k : Kind) → read_checks (form_at form) frame ≡ passed → found_in frame ≡ Known k
+  of-kind : (k : Kind) → read_checks (form_at form) frame ≡ Ok tt → found_in frame ≡ Known k
       → Gives (packet_of k (free_in (layout_of (form_at form) k) frame)) (record { at = size_of k; len = user_length (Known k) (form_at form) frame })
   of-kind k e ef =
       let vs = free_in (layout_of (form_at form) k) frame in
@@ -219,22 +217,22 @@ module _ (form : ℕ) (frame places : List ℕ) (room : 10 ≤ length places) wh
       )
 
   by-found : (p : Packet) (place : UserData) (c : Checked) (f : Found) → read_checks (form_at form) frame ≡ c → found_in frame ≡ f
-      → read_by c f (form_at form) frame ≡ PacketRead p place → Gives p place
-  by-found p place (refused_at why at) f ec ef e = let z : ◌≡◌ {A = ℕ} 0 1 = cc in absurd (omega arith)
-  by-found p place passed Route ec ef e = let z : ◌≡◌ {A = ℕ} 0 1 = cc in absurd (omega arith)
-  by-found p place passed Unknown ec ef e = let z : ◌≡◌ {A = ℕ} 0 1 = cc in absurd (omega arith)
-  by-found p place passed (Known k) ec ef e =
+      → read_by c f (form_at form) frame ≡ Ok (PacketIn p place) → Gives p place
+  by-found p place (Err fault) f ec ef e = let z : ◌≡◌ {A = ℕ} 0 1 = cc in absurd (omega arith)
+  by-found p place (Ok tt) Route ec ef e = let z : ◌≡◌ {A = ℕ} 0 1 = cc in absurd (omega arith)
+  by-found p place (Ok tt) Unknown ec ef e = let z : ◌≡◌ {A = ℕ} 0 1 = cc in absurd (omega arith)
+  by-found p place (Ok tt) (Known k) ec ef e =
       let there : UserData = record { at = size_of k; len = user_length (Known k) (form_at form) frame } in
       let packet : packet_of k (free_in (layout_of (form_at form) k) frame) ≡ p = cc in
       let at : there ≡ place = cc in
       subst (λ (x : Packet). Gives x place) packet (subst (Gives (packet_of k (free_in (layout_of (form_at form) k) frame))) at (of-kind k ec ef))
 
-  done-read : (p : Packet) (place : UserData) → read_of (form_at form) frame ≡ PacketRead p place → Gives p place
+  done-read : (p : Packet) (place : UserData) → read_of (form_at form) frame ≡ Ok (PacketIn p place) → Gives p place
   unfolding read_of
   done-read p place e = by-found p place (read_checks (form_at form) frame) (found_in frame) refl refl e
 
 -- a packet is short
-read-few : (form : Form) (frame : List ℕ) (p : Packet) (place : UserData) → read_of form frame ≡ PacketRead p place → place.at + place.len ≤ 160
+read-few : (form : Form) (frame : List ℕ) (p : Packet) (place : UserData) → read_of form frame ≡ Ok (PacketIn p place) → place.at + place.len ≤ 160
 read-few form frame p place e =
     let f = reads-frame form frame p place e in
     omega (arith, f.header-first, f.most, (most-range form f.good).1)
@@ -261,7 +259,7 @@ written-is-read form packet user out places h room =
     let wrote_it : F ≡ take w.n (write_output (form_at form) w.p user out) =
     ap₂ (λ (x : ℕ) (y : List ℕ). take x y) count
     (ap (λ (x : List ℕ). write_bytes form x user out) (sym w.taken) ∙ output-of form w.p user out) in
-    let reads : read_of (form_at form) F ≡ PacketRead w.p (place_of w.p (length user)) = ap (read_of (form_at form)) wrote_it ∙ back.fields in
+    let reads : read_of (form_at form) F ≡ Ok (PacketIn w.p (place_of w.p (length user))) = ap (read_of (form_at form)) wrote_it ∙ back.fields in
     let small = read-few (form_at form) F w.p (place_of w.p (length user)) reads in
     let done = done-read form F places room w.p (place_of w.p (length user)) reads in
     record {

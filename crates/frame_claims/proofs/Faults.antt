@@ -12,7 +12,7 @@ use lib.ListN.{length}
 use Rattle.refusal.specs.declared.Refusal.{Refusal}
 use Rattle.refusal.specs.declared.Refusal.TheVariants.{FormatError, OutputTooShort}
 use Rattle.refusal.specs.Numbers.{number_of, refusal_at}
-use Rattle.refusal.specs.Positions.{Checked, passed, refused_at, position_of}
+use Rattle.refusal.specs.Positions.{Checked, refused_at, fault_position}
 use Rattle.refusal.proofs.Numbers.{number-range, number-back}
 use Rattle.frame_form.specs.declared.Form.{Form}
 use Rattle.frame_form.specs.Forms.{most_of, form_at}
@@ -21,28 +21,29 @@ use Rattle.frame_kinds.specs.declared.Found.TheVariants.{Known, Route, Unknown}
 use Rattle.frame_reader.specs.Reading.{found_in, header_length, user_length, read_checks, read_answer_by, read_answer, fault_answer}
 use Rattle.frame_reader_claims.specs.FirstFault.{IsFirst, Placed}
 use Rattle.frame_reader_claims.proofs.FirstFault.{first-fault}
-use Rattle.frame.specs.declared.Read.TheVariants.{Refused as NotRead}
+use Rattle.frame.specs.declared.Contents.{Contents}
 use Rattle.frame.specs.Reading.{read_by, read_of}
 use Rattle.frame.proofs.Frames.{never-unknown}
 use Rattle.frame_claims.specs.Faults.{FaultOfTyped, FaultOfBytes, FaultOfCalls}
+use Rattle.std.specs.Prelude.{Ok, Err}
 
 -- ---- the typed call
 
 -- a refusal of the call is one of the checks
-same-refusal : (w why : Refusal) (a at : ℕ) → NotRead w a ≡ NotRead why at → refused_at w a ≡ refused_at why at
+same-refusal : (w why : Refusal) (a at : ℕ) → refused_at {T = Contents} w a ≡ refused_at {T = Contents} why at → refused_at {T = Unit} w a ≡ refused_at {T = Unit} why at
 same-refusal w why a at e = cc
 
-checks-of : (form : Form) (frame : List ℕ) (why : Refusal) (at : ℕ) → read_of form frame ≡ NotRead why at → read_checks form frame ≡ refused_at why at
+checks-of : (form : Form) (frame : List ℕ) (why : Refusal) (at : ℕ) → read_of form frame ≡ refused_at why at → read_checks form frame ≡ refused_at why at
 unfolding read_of
 checks-of form frame why at e = go (read_checks form frame) (found_in frame) refl refl e
   where
-    go : (c : Checked) (f : Found) → read_checks form frame ≡ c → found_in frame ≡ f → read_by c f form frame ≡ NotRead why at → read_checks form frame ≡ refused_at why at
-    go (refused_at w a) f ec ef h = ec ∙ same-refusal w why a at h
-    go passed (Known k) ec ef h = let z : ◌≡◌ {A = ℕ} 0 1 = cc in absurd (omega arith)
-    go passed Route ec ef h = let z : ◌≡◌ {A = ℕ} 0 1 = cc in absurd (omega arith)
-    go passed Unknown ec ef h = absurd (never-unknown form frame ec ef)
+    go : (c : Checked) (f : Found) → read_checks form frame ≡ c → found_in frame ≡ f → read_by c f form frame ≡ refused_at why at → read_checks form frame ≡ refused_at why at
+    go (Err fault) f ec ef h = ec ∙ same-refusal fault.why why fault.at at h
+    go (Ok tt) (Known k) ec ef h = let z : ◌≡◌ {A = ℕ} 0 1 = cc in absurd (omega arith)
+    go (Ok tt) Route ec ef h = let z : ◌≡◌ {A = ℕ} 0 1 = cc in absurd (omega arith)
+    go (Ok tt) Unknown ec ef h = absurd (never-unknown form frame ec ef)
 
-read-of : (form : Form) (frame : List ℕ) (why : Refusal) (at : ℕ) → read_checks form frame ≡ refused_at why at → read_of form frame ≡ NotRead why at
+read-of : (form : Form) (frame : List ℕ) (why : Refusal) (at : ℕ) → read_checks form frame ≡ refused_at why at → read_of form frame ≡ refused_at why at
 unfolding read_of
 read-of form frame why at e = ap (λ (c : Checked). read_by c (found_in frame) form frame) e
 
@@ -93,11 +94,13 @@ Answers form frame number at =
 
 module _ (form : ℕ) (frame : List ℕ) (places : ℕ) where
   by-checks : (c : Checked) → read_checks (form_at form) frame ≡ c
-      → Answers (form_at form) frame (read_answer_by c (header_length (found_in frame)) (user_length (found_in frame) (form_at form) frame) places % 256) (position_of c)
-  by-checks passed e = inl (refl, open-number (leb 10 places) (header_length (found_in frame) + 256 * user_length (found_in frame) (form_at form) frame))
-  by-checks (refused_at why at) e = inr (
-    told (form_at form) frame why at (first-fault.placed (form_at form) frame why at e),
+      → Answers (form_at form) frame (read_answer_by c (header_length (found_in frame)) (user_length (found_in frame) (form_at form) frame) places % 256) (fault_position c)
+  by-checks (Ok tt) e = inl (refl, open-number (leb 10 places) (header_length (found_in frame) + 256 * user_length (found_in frame) (form_at form) frame))
+  by-checks (Err fault) e = inr (
+    told (form_at form) frame fault.why fault.at (first-fault.placed (form_at form) frame fault.why fault.at e),
     λ h.
+        let why = fault.why in
+        let at = fault.at in
         let three : why ≡ FormatError = same_number why FormatError (omega (arith, number-range why, h)) in
         first-fault.named-is-first (form_at form) frame at (e ∙ ap (λ (w : Refusal). refused_at w at) three),
   )

@@ -8,24 +8,23 @@ use Prim.Native.Nat.{ℕ, ◌≤◌}
 use native.Mathlib.Omega.{arith}
 use lib.ListN.{length, take, drop}
 use lib.Seq.{take_at}
-use Rattle.refusal.specs.declared.Verdict.{Verdict}
-use Rattle.refusal.specs.declared.Verdict.TheVariants.{Done}
 use Rattle.frame_fields.specs.Rows.{AreBytes}
 use Rattle.frame_form.specs.declared.Form.{Form}
 use Rattle.frame_form.specs.Forms.{seg_of, is_long}
 use Rattle.frame_form.specs.Segments.{frame_length}
 use Rattle.frame_writer.proofs.Verdicts.{accepted, accepts}
 use Rattle.frame.specs.declared.Packet.{Packet}
-use Rattle.frame.specs.declared.Written.TheVariants.{Done as WrittenDone}
 use Rattle.frame.specs.declared.UserData.{UserData}
-use Rattle.frame.specs.declared.Read.TheVariants.{Packet as PacketRead}
 use Rattle.frame.specs.Writing.{length_of, fits, frame_of, frame_verdict, written_by, write_of, write_output}
 use Rattle.frame.specs.Reading.{read_of, part_of, place_of}
 use Rattle.frame_claims.specs.ReadBack.{WrittenIsRead, ReadIsWritten, ReadBack}
 use Rattle.frame.proofs.Frames.{written-done, frame-length, output-is}
 use Rattle.frame_claims.proofs.ByLayout.{by_layout}
+use Rattle.refusal.specs.Numbers.{Verdict}
+use Rattle.frame.specs.declared.Contents.TheVariants.{Packet as PacketIn}
+use Rattle.std.specs.Prelude.{Ok}
 
-written-is-read : (form : Form) (p : Packet) (user out : List ℕ) (n : ℕ) → write_of form p (length user) (length out) ≡ WrittenDone n → WrittenIsRead form p user out n
+written-is-read : (form : Form) (p : Packet) (user out : List ℕ) (n : ℕ) → write_of form p (length user) (length out) ≡ Ok n → WrittenIsRead form p user out n
 unfolding write_of
 written-is-read form p user out n e =
     let w = written-done (frame_verdict form p (length user) (length out)) (frame_length (seg_of form) (length_of p (length user))) n e in
@@ -40,19 +39,19 @@ written-is-read form p user out n e =
     }
 
 read-is-written : (form : Form) (frame : List ℕ) (p : Packet) (place : UserData) (out : List ℕ)
-    → is_long form ≡ true → AreBytes frame → read_of form frame ≡ PacketRead p place → length frame ≤ length out → ReadIsWritten form frame p place out
+    → is_long form ≡ true → AreBytes frame → read_of form frame ≡ Ok (PacketIn p place) → length frame ≤ length out → ReadIsWritten form frame p place out
 unfolding write_of
 read-is-written form frame p place out long bytes e room =
     let f = by_layout.read-is-frame form frame p place bytes e in
     let user = part_of frame place in
     let fills : frame_length (seg_of form) (length_of p (length user)) ≡ length frame = sym (frame-length form p user) ∙ ap length (sym f.same) in
-    let v : frame_verdict form p (length user) (length out) ≡ Done =
+    let v : frame_verdict form p (length user) (length out) ≡ Ok tt =
     accepts form (fits form p (length user)) (length_of p (length user)) (length out)
     (record { good = f.holds.good; fit = f.holds.fit; long = long; most = f.holds.most; room-enough = omega (arith, fills, room) }) in
     record {
       answer =
           ap (λ (q : UserData). write_of form p q.len (length out)) f.place_is
-          ∙ ap (λ (x : Verdict). written_by x (frame_length (seg_of form) (length_of p (length user)))) v ∙ ap WrittenDone fills;
+          ∙ ap (λ (x : Verdict). written_by x (frame_length (seg_of form) (length_of p (length user)))) v ∙ ap Ok fills;
       bytes = output-is form p user out v ∙ ap (λ (x : List ℕ). x ++ drop (length x) out) (sym f.same);
     }
 

@@ -6,17 +6,17 @@ use mathlib.Core.List.{List}
 use mathlib.Core.Logic.{◌≢◌}
 use Prim.Native.Nat.{ℕ}
 use lib.ListN.{length}
-use Rattle.refusal.specs.declared.Verdict.{Verdict}
-use Rattle.refusal.specs.declared.Verdict.TheVariants.{Done, Refused}
 use Rattle.frame_form.specs.Forms.{seg_of}
 use Rattle.frame_form.specs.Segments.{frame_length}
 use Rattle.frame_writer.specs.Writing.{output_by}
-use Rattle.frame.specs.Writing.{written_number, written_bytes, length_of, frame_of, frame_verdict, written_by, write_of, write_output}
+use Rattle.frame.specs.Writing.{written_bytes, length_of, frame_of, frame_verdict, written_by, write_of, write_output}
 use Rattle.frame_claims.specs.Refusing.{RefusalsChangeNothing}
+use Rattle.refusal.specs.Numbers.{Verdict, refusal_number}
+use Rattle.std.specs.Prelude.{Ok, Err}
 
-pub write-by : (v : Verdict) (n : ℕ) (frame out : List ℕ) → written_number (written_by v n) ≢ 0 → (written_bytes (written_by v n) ≡ 0) × (output_by v frame out ≡ out)
-write-by Done n frame out h = absurd (h refl)
-write-by (Refused why) n frame out h = (refl, refl)
+pub write-by : (v : Verdict) (n : ℕ) (frame out : List ℕ) → refusal_number (written_by v n) ≢ 0 → (written_bytes (written_by v n) ≡ 0) × (output_by v frame out ≡ out)
+write-by (Ok tt) n frame out h = absurd (h refl)
+write-by (Err why) n frame out h = (refl, refl)
 
 pub refusals-change-nothing : RefusalsChangeNothing
 unfolding write_of write_output

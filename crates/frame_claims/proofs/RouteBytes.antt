@@ -12,8 +12,6 @@ use lib.ListN.{length, get_or, take, drop}
 use lib.Seq.{take_at}
 use borrow.Author.Tests.{lt-leb}
 use Rattle.refusal.specs.declared.Refusal.TheVariants.{PacketTooLong}
-use Rattle.refusal.specs.declared.Verdict.{Verdict}
-use Rattle.refusal.specs.declared.Verdict.TheVariants.{Done, Refused}
 use Rattle.refusal.proofs.Numbers.{number-range}
 use Rattle.lists.specs.Lists.{over}
 use Rattle.little.specs.Little.{flag}
@@ -31,9 +29,8 @@ use Rattle.frame_reader.proofs.Cases.{passed-answer, passed-bytes}
 use Rattle.frame_writer.specs.Writing.{write_verdict, output_by, answer_by}
 use Rattle.frame_writer.specs.Routes.{route_after, route_length, route_fits, route_frame, route_verdict, route_answer, route_bytes}
 use Rattle.frame_writer.proofs.Verdicts.{accepted, accepts}
-use Rattle.frame.specs.declared.Written.TheVariants.{Refused as NotWritten}
 use Rattle.frame.specs.Routes.{route_said, write_route_of, write_route_output}
-use Rattle.frame.proofs.Contents.{free_in}
+use Rattle.frame.proofs.OneLayout.{free_in}
 use Rattle.frame_claims.specs.Bytes.{user_named}
 use Rattle.frame_claims.specs.Routes.{table_named, extra_named, RouteBytesRead, RouteBytesWritten, RouteReadBackOfBytes, RouteRefusals}
 use Rattle.frame_claims.proofs.Bytes.{read_done, route-read}
@@ -41,12 +38,14 @@ use Rattle.frame_claims.proofs.Stored.{by-verdict}
 use Rattle.frame_claims.proofs.Refusing.{write-by}
 use Rattle.frame_claims.proofs.Short.{by-fit, never-long, number_by}
 use Rattle.frame_claims.proofs.RouteFrames.{flags, fits-flags, table-first, data-second, written, Written, of_in, in_in, rtl_in, after_in, table_in, extra_in, IsRoute, is-route}
+use Rattle.refusal.specs.Numbers.{Verdict}
+use Rattle.std.specs.Prelude.{Ok, Err}
 
 -- ---- an answer that is done
 
-answer-done : (v : Verdict) (len : ℕ) → answer_by v len % 256 ≡ 0 → v ≡ Done
-answer-done Done len h = refl
-answer-done (Refused why) len h = absurd (omega (arith, number-range why))
+answer-done : (v : Verdict) (len : ℕ) → answer_by v len % 256 ≡ 0 → v ≡ Ok tt
+answer-done (Ok tt) len h = refl
+answer-done (Err why) len h = absurd (omega (arith, number-range why))
 
 -- ---- written, then read
 
@@ -103,7 +102,7 @@ written-is-read form o i table extra out places h room =
     let f = form_at form in
     let len = route_length o (length table) (length extra) in
     let v = route_verdict f o i (length table) (length extra) (length out) in
-    let ok : v ≡ Done = answer-done v (frame_length (seg_of f) len) h in
+    let ok : v ≡ Ok tt = answer-done v (frame_length (seg_of f) len) h in
     let c = accepted f (route_fits o i (length extra)) len (length out) ok in
     let F = route_frame f o i table extra in
     let w = written f o i table extra c.good c.fit c.most in
@@ -135,7 +134,7 @@ module _ (form : ℕ) (frame places out : List ℕ) (long : is_long (form_at for
   fills : frame_length (seg_of f) (route_length (of_in frame) (length (table_in f frame)) (length (extra_in f frame))) ≡ length frame
   fills = sym (written f (of_in frame) (in_in frame) (table_in f frame) (extra_in f frame) q.good fit q.most).size ∙ ap length (q.same bytes)
 
-  said : route_verdict f (of_in frame) (in_in frame) (length (table_in f frame)) (length (extra_in f frame)) (length out) ≡ Done
+  said : route_verdict f (of_in frame) (in_in frame) (length (table_in f frame)) (length (extra_in f frame)) (length out) ≡ Ok tt
   said =
       accepts f (route_fits (of_in frame) (in_in frame) (length (extra_in f frame))) (route_length (of_in frame) (length (table_in f frame)) (length (extra_in f frame))) (length out)
       (record { good = q.good; fit = fit; long = long; most = q.most; room-enough = omega (arith, fills, room) })
@@ -192,7 +191,7 @@ long-packet true i table extra h long = omega (arith, long)
 long-packet false i table extra h long = omega (arith, long, (flags 0 i extra h).none (λ z. omega (arith, z)))
 
 over-255 : (form : Form) (optional initial : Bool) (table extra room : ℕ) → form_valid form ≡ true → is_long form ≡ true
-    → route_fits (flag optional) (flag initial) extra ≡ true → 255 < table + extra → write_route_of form optional initial table extra room ≡ NotWritten PacketTooLong
+    → route_fits (flag optional) (flag initial) extra ≡ true → 255 < table + extra → write_route_of form optional initial table extra room ≡ Err PacketTooLong
 unfolding write_route_of write_verdict
 over-255 form optional initial table extra room good long fit more =
     let n = route_length (flag optional) table extra in

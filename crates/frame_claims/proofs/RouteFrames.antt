@@ -11,7 +11,7 @@ use lib.ListN.{length, get_or, take, drop, replicate, length-append, length-drop
 use lib.Seq.{take_at, drop_at, take-append-le, drop-append-le, drop-append-add, get_or-append_seam, get_or-append-add, split_at, take_all, length-take-le, get_or-take, get_or-drop}
 use borrow.Author.Tests.{le-leb, lt-ltb, ltb-true, eq-eqb, eqb-true, eqb-false, ne_eqb}
 use Rattle.refusal.specs.declared.Refusal.TheVariants.{PacketTooLong}
-use Rattle.refusal.specs.Positions.{passed, check_at}
+use Rattle.refusal.specs.Positions.{check_at}
 use Rattle.refusal.proofs.Checks.{both_true}
 use Rattle.frame_fields.specs.Rows.{AreBytes}
 use Rattle.frame_fields.specs.Layouts.{fields, within, header, free_values}
@@ -32,8 +32,9 @@ use Rattle.frame_reader.specs.Reading.{found_in, fault_of, length_in, read_check
 use Rattle.frame_reader.proofs.Cases.{no-fault}
 use Rattle.frame_writer.specs.Routes.{route_after, route_length, route_fits, route_frame}
 use Rattle.frame_writer.proofs.Routes.{after-length}
-use Rattle.frame.proofs.Contents.{header-length, values-back, content-good, free_in, inside, frame-again}
+use Rattle.frame.proofs.OneLayout.{header-length, values-back, content-good, free_in, inside, frame-again}
 use Rattle.frame.proofs.Frames.{checks-passed}
+use Rattle.std.specs.Prelude.{Ok}
 
 -- ---- a list and its front
 
@@ -183,14 +184,14 @@ module _ (form : Form) (o i : ℕ) (table extra : List ℕ) (good : form_valid f
       let multiple : length frame % seg ≡ 0 = ap (λ (x : ℕ). x % seg) size ∙ frame-whole seg (2 + length a) (segment-some form) in
       rw (le-leb 1 (length frame) (omega (arith, size)), eq-eqb (length frame % seg) 0 multiple)
 
-  checks : read_checks form frame ≡ passed
+  checks : read_checks form frame ≡ Ok tt
   checks =
       no-fault form frame good whole (2 + length a) (ap (λ (f : Found). fault_of f form frame) found ∙ content.0) (ap (λ (f : Found). length_in f form frame) found ∙ content.1)
-      ∙ ap (λ (b : Bool). check_at b PacketTooLong (most_of form) passed) (le-leb (2 + length a) (most_of form) (omega (arith, after-length o table extra, most)))
+      ∙ ap (λ (b : Bool). check_at b PacketTooLong (most_of form) (Ok tt)) (le-leb (2 + length a) (most_of form) (omega (arith, after-length o table extra, most)))
 
 -- the frame reads, with these values, and what follows RTL is this
 pub record Written (form : Form) (o i : ℕ) (table extra frame : List ℕ) : Type 0 where
-  pub checks : read_checks form frame ≡ passed
+  pub checks : read_checks form frame ≡ Ok tt
   pub found : found_in frame ≡ Route
   pub values : free_in route_layout frame ≡ o ∷ i ∷ length table ∷ []
   pub packet : packet_length (seg_of form) route_layout frame ≡ 2 + length (route_after o table extra)
@@ -244,7 +245,7 @@ pub record IsRoute (form : Form) (frame : List ℕ) : Type 0 where
   pub table-size : length (table_in form frame) ≡ rtl_in frame
   pub same : AreBytes frame → route_frame form (of_in frame) (in_in frame) (table_in form frame) (extra_in form frame) ≡ frame
 
-module _ (form : Form) (frame : List ℕ) (ec : read_checks form frame ≡ passed) (ef : found_in frame ≡ Route) where
+module _ (form : Form) (frame : List ℕ) (ec : read_checks form frame ≡ Ok tt) (ef : found_in frame ≡ Route) where
   abbrev n : ℕ
   n = packet_length (seg_of form) route_layout frame
 
@@ -328,7 +329,7 @@ module _ (form : Form) (frame : List ℕ) (ec : read_checks form frame ≡ passe
   same-frame bytes =
       ap₂ (λ (k : ℕ) (xs : List ℕ). framed (seg_of form) (header route_layout 0 (of-read ∷ (in_in frame) ∷ k ∷ [])) xs) table-size again-strings ∙ again-frame bytes
 
-pub is-route : (form : Form) (frame : List ℕ) → read_checks form frame ≡ passed → found_in frame ≡ Route → IsRoute form frame
+pub is-route : (form : Form) (frame : List ℕ) → read_checks form frame ≡ Ok tt → found_in frame ≡ Route → IsRoute form frame
 is-route form frame ec ef = record {
   good = (checks-passed form frame ec).valid;
   fit = fit-again form frame ec ef;

@@ -9,10 +9,8 @@ use native.Mathlib.Omega.{arith}
 use lib.Dec.{leb, eqb}
 use lib.ListN.{length, get_or, drop}
 use Rattle.refusal.specs.declared.Refusal.TheVariants.{OutOfRange, PacketTooLong, OutputTooShort, ShortForm}
-use Rattle.refusal.specs.declared.Verdict.{Verdict}
-use Rattle.refusal.specs.declared.Verdict.TheVariants.{Done, Refused}
-use Rattle.refusal.specs.Numbers.{number_of, verdict_number, check}
-use Rattle.refusal.specs.Positions.{Checked, passed, refused_at}
+use Rattle.refusal.specs.Numbers.{number_of, check, refusal_number, Verdict}
+use Rattle.refusal.specs.Positions.{Checked, fault_number}
 use Rattle.refusal.proofs.Numbers.{number-range}
 use Rattle.refusal.proofs.Checks.{check-never}
 use Rattle.frame_form.specs.declared.Form.{Form}
@@ -26,42 +24,42 @@ use Rattle.frame_kinds.specs.Kinds.{kind_at}
 use Rattle.frame_reader.specs.Reading.{found_in, header_length, user_length, read_checks, read_answer_by, read_answer}
 use Rattle.frame_writer.specs.Writing.{packet_size, write_verdict, answer_by, places_fit, write_answer_by, write_answer}
 use Rattle.frame.specs.declared.Packet.{Packet}
-use Rattle.frame.specs.declared.Written.TheVariants.{Refused as NotWritten}
-use Rattle.frame.specs.Writing.{written_number, written_by, length_of, fits, frame_verdict, write_of}
-use Rattle.frame.specs.Reading.{read_number, read_by, read_of}
+use Rattle.frame.specs.Writing.{written_by, length_of, fits, frame_verdict, write_of}
+use Rattle.frame.specs.Reading.{read_by, read_of}
 use Rattle.frame.proofs.Numbers.{read-not-short}
 use Rattle.frame_claims.specs.Short.{ShortNotWritten, ShortBytesNotWritten}
 use Rattle.frame_claims.proofs.Bytes.{written_answer, answer-of}
+use Rattle.std.specs.Prelude.{Ok, Err}
 
 -- ---- writing
 
 -- the form is valid; then 1 and 23, before all others
-pub by-fit : (b : Bool) (len : ℕ) → written_by (check b OutOfRange (Refused ShortForm)) len ≡ NotWritten (cond b ShortForm OutOfRange)
+pub by-fit : (b : Bool) (len : ℕ) → written_by (check b OutOfRange (Err ShortForm)) len ≡ Err (cond b ShortForm OutOfRange)
 by-fit true len = refl
 by-fit false len = refl
 
-in-short : (p : Packet) (user room : ℕ) → write_of ShortUplink p user room ≡ NotWritten (cond (fits ShortUplink p user) ShortForm OutOfRange)
+in-short : (p : Packet) (user room : ℕ) → write_of ShortUplink p user room ≡ Err (cond (fits ShortUplink p user) ShortForm OutOfRange)
 unfolding write_of write_verdict
 in-short p user room = by-fit (fits ShortUplink p user) (frame_length (seg_of ShortUplink) (length_of p user))
 
 -- the checks in a long form: 23 is none of them
-pub never-long : (form : Form) (fit : Bool) (n room : ℕ) → is_long form ≡ true → verdict_number (write_verdict form fit n room) ≢ 23
+pub never-long : (form : Form) (fit : Bool) (n room : ℕ) → is_long form ≡ true → refusal_number (write_verdict form fit n room) ≢ 23
 unfolding write_verdict
 never-long form fit n room long =
-    let r = check (leb (frame_length (seg_of form) n) room) OutputTooShort Done in
+    let r = check (leb (frame_length (seg_of form) n) room) OutputTooShort (Ok tt) in
     let m = check (leb n (most_of form)) PacketTooLong r in
-    let never_r = check-never 23 (leb (frame_length (seg_of form) n) room) OutputTooShort Done (λ e. omega arith) (λ e. omega arith) in
+    let never_r = check-never 23 (leb (frame_length (seg_of form) n) room) OutputTooShort (Ok tt) (λ e. omega arith) (λ e. omega arith) in
     let never-m = check-never 23 (leb n (most_of form)) PacketTooLong r (λ e. omega arith) never_r in
-    let never-l : verdict_number (check (is_long form) ShortForm m) ≢ 23 = subst (λ (b : Bool). verdict_number (check b ShortForm m) ≢ 23) (sym long) never-m in
+    let never-l : refusal_number (check (is_long form) ShortForm m) ≢ 23 = subst (λ (b : Bool). refusal_number (check b ShortForm m) ≢ 23) (sym long) never-m in
     let never-f = check-never 23 fit OutOfRange (check (is_long form) ShortForm m) (λ e. omega arith) never-l in
     check-never 23 (form_valid form) OutOfRange (check fit OutOfRange (check (is_long form) ShortForm m)) (λ e. omega arith) never-f
 
 -- a writer's answer has the number of its checks
-pub number_by : (v : Verdict) (len : ℕ) → written_number (written_by v len) ≡ verdict_number v
-number_by Done len = refl
-number_by (Refused why) len = refl
+pub number_by : (v : Verdict) (len : ℕ) → refusal_number (written_by v len) ≡ refusal_number v
+number_by (Ok tt) len = refl
+number_by (Err why) len = refl
 
-in-long : (form : Form) (p : Packet) (user room : ℕ) → is_long form ≡ true → written_number (write_of form p user room) ≢ 23
+in-long : (form : Form) (p : Packet) (user room : ℕ) → is_long form ≡ true → refusal_number (write_of form p user room) ≢ 23
 unfolding write_of
 in-long form p user room long e =
     never-long form (fits form p user) (length_of p user) room long
@@ -95,12 +93,12 @@ short-checks : (fit : Bool) (n room len : ℕ) → answer_by (write_verdict (for
 unfolding write_verdict
 short-checks fit n room len = ap (λ (f : Form). answer_by (write_verdict f fit n room) len) (at-short 0 refl) ∙ go fit
   where
-    go : (b : Bool) → answer_by (check b OutOfRange (Refused ShortForm)) len ≡ cond b 23 1
+    go : (b : Bool) → answer_by (check b OutOfRange (Err ShortForm)) len ≡ cond b 23 1
     go true = refl
     go false = refl
 
 -- a packet in the short form
-short-answer : (b : Bool) → written_answer (NotWritten (cond b ShortForm OutOfRange)) ≡ cond b 23 1
+short-answer : (b : Bool) → written_answer (Err (cond b ShortForm OutOfRange)) ≡ cond b 23 1
 short-answer true = refl
 short-answer false = refl
 
@@ -120,9 +118,9 @@ never-written packet user room = go (answered 0 packet user room)
     go (inr (fit, n, e)) = one_of fit _ (e ∙ short-checks fit n room (frame_length (seg_of (form_at 0)) n))
 
 -- the lowest byte of an answer is its number
-low_byte : (v : Verdict) (len : ℕ) → answer_by v len % 256 ≡ verdict_number v
-low_byte Done len = omega arith
-low_byte (Refused why) len = omega (arith, number-range why)
+low_byte : (v : Verdict) (len : ℕ) → answer_by v len % 256 ≡ refusal_number v
+low_byte (Ok tt) len = omega arith
+low_byte (Err why) len = omega (arith, number-range why)
 
 bytes-long : (form : ℕ) (packet : List ℕ) (user room : ℕ) → 1 ≤ form → write_answer form packet user room % 256 ≢ 23
 bytes-long form packet user room long e = go (answered form packet user room)
@@ -138,10 +136,10 @@ by-places : (b : Bool) (n : ℕ) → cond b (256 * n) (number_of OutputTooShort)
 by-places true n e = omega (arith, e)
 by-places false n e = omega (arith, e)
 
-by-checks : (c : Checked) (found : Found) (form : Form) (start user places : ℕ) (frame : List ℕ) → read_number (read_by c found form frame) ≢ 23
+by-checks : (c : Checked) (found : Found) (form : Form) (start user places : ℕ) (frame : List ℕ) → fault_number (read_by c found form frame) ≢ 23
     → read_answer_by c start user places % 256 ≢ 23
-by-checks passed found form start user places frame h e = by-places (leb 10 places) (start + 256 * user) e
-by-checks (refused_at why at) found form start user places frame h e = h (omega (arith, number-range why, e))
+by-checks (Ok tt) found form start user places frame h e = by-places (leb 10 places) (start + 256 * user) e
+by-checks (Err fault) found form start user places frame h e = h (omega (arith, number-range fault.why, e))
 
 bytes-reading : (form : ℕ) (frame : List ℕ) (places : ℕ) → read_answer form frame places % 256 ≢ 23
 unfolding read_answer read_of

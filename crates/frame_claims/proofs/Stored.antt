@@ -12,10 +12,8 @@ use lib.ListN.{length, get_or, take, drop, replicate, length-drop, take-append-d
 use lib.Seq.{get_or-take, length-take-le}
 use borrow.Author.Tests.{eqb-true}
 use Rattle.refusal.specs.declared.Refusal.TheVariants.{OutOfRange, OutputTooShort}
-use Rattle.refusal.specs.declared.Verdict.{Verdict}
-use Rattle.refusal.specs.declared.Verdict.TheVariants.{Done, Refused}
-use Rattle.refusal.specs.Numbers.{number_of}
-use Rattle.refusal.specs.Positions.{Checked, passed, refused_at}
+use Rattle.refusal.specs.Numbers.{number_of, Verdict}
+use Rattle.refusal.specs.Positions.{Checked}
 use Rattle.refusal.proofs.Checks.{both_true}
 use Rattle.refusal.proofs.Numbers.{number-alone}
 use Rattle.lists.specs.Lists.{over}
@@ -37,6 +35,7 @@ use Rattle.frame.specs.Packets.{kind_of, values_of, packet_of, packet_bytes, kin
 use Rattle.frame.proofs.KindLaws.{packet-made, kind-made, values-made, values_same, packet-same}
 use Rattle.frame.proofs.Ten.{places_of, ten, places-fit, pad-get}
 use Rattle.frame_claims.specs.Stored.{PacketBack, RoundTrips, RefusedBytesChangeNothing}
+use Rattle.std.specs.Prelude.{Ok, Err}
 
 -- ---- a packet in its ten bytes
 
@@ -111,8 +110,8 @@ round-trips = record { packet-back = packet-back; bytes_back = bytes_back }
 -- ---- refused writing
 
 pub by-verdict : (v : Verdict) (len : ℕ) (frame out : List ℕ) → answer_by v len % 256 ≢ 0 → (output_by v frame out ≡ out) × (answer_by v len / 256 ≡ 0)
-by-verdict Done len frame out h = absurd (h (omega arith))
-by-verdict (Refused why) len frame out h = (refl, omega (arith, number-alone why))
+by-verdict (Ok tt) len frame out h = absurd (h (omega arith))
+by-verdict (Err why) len frame out h = (refl, omega (arith, number-alone why))
 
 module _ (form : ℕ) (bytes user out : List ℕ) where
   by_kind : (found : Found) → write_answer_by found form (drop 1 bytes) (length user) (length out) % 256 ≢ 0
@@ -144,8 +143,8 @@ by-room answer packet bytes false h = (refl, refl)
 
 by-checks : (c : Checked) (start user : ℕ) (packet bytes : List ℕ) → read_answer_by c start user (length bytes) % 256 ≢ 0
     → (read_bytes_by c packet bytes ≡ bytes) × (read_answer_by c start user (length bytes) / 256 ≡ 0)
-by-checks passed start user packet bytes h = by-room (start + 256 * user) packet bytes (leb 10 (length bytes)) h
-by-checks (refused_at why at) start user packet bytes h = (refl, number-alone why)
+by-checks (Ok tt) start user packet bytes h = by-room (start + 256 * user) packet bytes (leb 10 (length bytes)) h
+by-checks (Err fault) start user packet bytes h = (refl, number-alone fault.why)
 
 read-refused : (form : ℕ) (frame bytes : List ℕ) → read_answer form frame (length bytes) % 256 ≢ 0
     → (read_bytes form frame bytes ≡ bytes) × (read_answer form frame (length bytes) / 256 ≡ 0)

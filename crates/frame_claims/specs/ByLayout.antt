@@ -4,15 +4,15 @@
 -- packet and its user data. No writer is needed to say so; what a writer adds in the long forms is
 -- specs/ReadBack.antt. proofs/ByLayout.antt proves them (`by_layout`).
 -- Assumes nothing.
-use Rattle.std.specs.Prelude.{◌≡◌, true, List, ℕ, ◌≤◌, length}
+use Rattle.std.specs.Prelude.{◌≡◌, true, List, ℕ, ◌≤◌, length, Ok}
 use Rattle.frame_fields.specs.Rows.{AreBytes}
 use Rattle.frame_form.specs.declared.Form.{Form}
 use Rattle.frame_form.specs.Forms.{most_of, form_valid}
 use Rattle.frame.specs.declared.Packet.{Packet}
 use Rattle.frame.specs.declared.UserData.{UserData}
-use Rattle.frame.specs.declared.Read.TheVariants.{Packet as PacketRead}
 use Rattle.frame.specs.Writing.{length_of, fits, frame_of}
 use Rattle.frame.specs.Reading.{read_of, part_of, place_of}
+use Rattle.frame.specs.declared.Contents.TheVariants.{Packet as PacketIn}
 
 -- a frame of this form can hold packet p with `user` bytes of user data: the form is valid, every
 -- value fits its field, and the packet is no longer than the form's largest
@@ -33,7 +33,7 @@ pub record ReadIsFrame (form : Form) (frame : List ℕ) (p : Packet) (place : Us
 -- the frame of packet p and this user data, by the layout
 pub record FrameIsRead (form : Form) (p : Packet) (user : List ℕ) : Type 0 where
   -- it reads as p, and gives the place of the user data
-  pub fields : read_of form (frame_of form p user) ≡ PacketRead p (place_of p (length user))
+  pub fields : read_of form (frame_of form p user) ≡ Ok (PacketIn p (place_of p (length user)))
   -- the bytes at this place are the user data
   pub data-kept : part_of (frame_of form p user) (place_of p (length user)) ≡ user
   -- it is made of bytes if the user data is
@@ -43,5 +43,5 @@ pub record FrameIsRead (form : Form) (p : Packet) (user : List ℕ) : Type 0 whe
 -- hold
 pub record ByLayout : Type 0 where
   pub read-is-frame : (form : Form) (frame : List ℕ) (p : Packet) (place : UserData)
-      → AreBytes frame → read_of form frame ≡ PacketRead p place → ReadIsFrame form frame p place
+      → AreBytes frame → read_of form frame ≡ Ok (PacketIn p place) → ReadIsFrame form frame p place
   pub frame-is-read : (form : Form) (p : Packet) (user : List ℕ) → CanHold form p (length user) → FrameIsRead form p user

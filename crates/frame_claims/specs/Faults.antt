@@ -11,17 +11,17 @@ use Rattle.frame_form.specs.declared.Form.{Form}
 use Rattle.frame_form.specs.Forms.{most_of, form_at}
 use Rattle.frame_reader.specs.Reading.{fault_answer, read_answer}
 use Rattle.frame_reader_claims.specs.FirstFault.{IsFirst}
-use Rattle.frame.specs.declared.Read.TheVariants.{Refused}
 use Rattle.frame.specs.Reading.{read_of}
+use Rattle.refusal.specs.Positions.{refused_at}
 
 -- the typed call
 pub record FaultOfTyped : Type 0 where
   -- the byte that refusal 3 names is one of the frame and wrong, and none before it is
-  pub named-is-first : (form : Form) (frame : List ℕ) (at : ℕ) → read_of form frame ≡ Refused FormatError at → IsFirst form frame at
+  pub named-is-first : (form : Form) (frame : List ℕ) (at : ℕ) → read_of form frame ≡ refused_at FormatError at → IsFirst form frame at
   -- the bytes up to and including it decide that: a frame of the same length that agrees with them
   -- is refused with 3 at the same byte
-  pub told-by-the-front : (form : Form) (frame other : List ℕ) (at : ℕ) → AreBytes frame → AreBytes other → read_of form frame ≡ Refused FormatError at
-      → length other ≡ length frame → take (suc at) other ≡ take (suc at) frame → read_of form other ≡ Refused FormatError at
+  pub told-by-the-front : (form : Form) (frame other : List ℕ) (at : ℕ) → AreBytes frame → AreBytes other → read_of form frame ≡ refused_at FormatError at
+      → length other ≡ length frame → take (suc at) other ≡ take (suc at) frame → read_of form other ≡ refused_at FormatError at
 
 -- the calls on lent bytes: the number that `read` answers, with any number of places for the
 -- packet, says what `fault` answers

@@ -3,11 +3,11 @@
 #![tactic(auto)]
 
 ghost use Rattle.std.specs.Prelude.{◌≡◌, ◌≤◌};
-ghost use Rattle.frame_form.specs.Forms.{seg_of, most_of, form_valid, is_long, form_at, is_uplink, form_number, form_code};
+ghost use Rattle.frame_form.specs.Forms.{seg_of, most_of, form_valid, is_long, form_at, is_uplink, form_code};
 ghost use Rattle.frame_form.specs.Segments.{whole_segments};
 
 // The form of a frame: it gives the size of a segment and the size of the largest packet.
-#[derive(Clone, Copy)]
+#[derive(Clone, Copy, Debug, PartialEq, Eq)]
 pub enum Form {
     ShortUplink,
     LongUplink,
@@ -16,40 +16,16 @@ pub enum Form {
 }
 
 impl Form {
-    // The form with the number `n`, for `message_bytes`: 0 is the short uplink, 1 to 16 the long
-    // downlink with that many segments, 17 the long uplink. The form is not valid if `n` is over
-    // 17.
-    pub fn from_number(n: u8) -> Form
-        ensures { result ≡ form_at n }
-    {
-        if n == 0 {
-            Form::ShortUplink
-        } else if n == 17 {
-            Form::LongUplink
-        } else {
-            Form::LongDownlink(n)
-        }
-    }
-
-    // The form's number, if the form is valid.
-    fn own_number(self) -> u8
-        ensures { result ≡ form_number self }
+    // The number of a valid form; 255, which is no form's, for another.
+    #[tactic(auto, unfolding(crate::specs::Forms::form_code))]
+    pub fn number(self) -> u8
+        ensures { result ≡ form_code self }
     {
         match self {
             Form::ShortUplink => 0,
             Form::LongUplink => 17,
-            Form::LongDownlink(n) => n,
-        }
-    }
-
-    // The number of a valid form; 255, which is no form's, for another.
-    pub fn number(self) -> u8
-        ensures { result ≡ form_code self }
-    {
-        if self.is_valid() {
-            self.own_number()
-        } else {
-            255
+            Form::LongDownlink(n) if self.is_valid() => n,
+            Form::LongDownlink(_n) => 255,
         }
     }
 
@@ -100,10 +76,26 @@ impl Form {
     }
 }
 
+// The form with the number `n`, for `message_bytes`: 0 is the short uplink, 1 to 16 the long downlink
+// with that many segments, 17 the long uplink. The form is not valid if `n` is over 17.
+impl From<u8> for Form {
+    ghost from_gives = { λ n form. form ≡ form_at n };
+
+    #[tactic(auto, unfolding(crate::specs::Forms::form_at))]
+    fn from(n: u8) -> Form {
+        match n {
+            0 => Form::ShortUplink,
+            17 => Form::LongUplink,
+            _ => Form::LongDownlink(n),
+        }
+    }
+}
+
 // ---- forms by their numbers, for `frame_reader` and `frame_writer`. Nothing is made of a number
 // that has to be taken apart again
 
 // Whether `n` is the number of a form.
+#[tactic(auto, unfolding(crate::specs::Forms::form_at))]
 pub fn is_form(n: u8) -> bool
     ensures { result ≡ form_valid (form_at n) }
 {
@@ -111,6 +103,7 @@ pub fn is_form(n: u8) -> bool
 }
 
 // The size of a segment of the form with the number `n`, in bytes.
+#[tactic(auto, unfolding(crate::specs::Forms::form_at))]
 pub fn segment_at(n: u8) -> usize
     ensures { result ≡ seg_of (form_at n) }
 {
@@ -118,20 +111,20 @@ pub fn segment_at(n: u8) -> usize
 }
 
 // The size of the largest packet of the form with the number `n`, in bytes.
+#[tactic(auto, unfolding(crate::specs::Forms::form_at))]
 pub fn most_at(n: u8) -> usize
     ensures { result ≡ most_of (form_at n) }
 {
-    if n == 0 {
-        28
-    } else if n == 17 {
-        152
-    } else {
-        10 * n as usize
+    match n {
+        0 => 28,
+        17 => 152,
+        _ => 10 * n as usize,
     }
 }
 
 // Whether `len` bytes are a whole number of segments, at least one, of the form with the number
 // `n`.
+#[tactic(auto, unfolding(crate::specs::Forms::form_at, crate::specs::Segments::whole_segments))]
 pub fn is_whole_at(n: u8, len: usize) -> bool
     ensures { result ≡ whole_segments (seg_of (form_at n)) len }
 {
@@ -145,6 +138,7 @@ pub fn is_whole_at(n: u8, len: usize) -> bool
 }
 
 // Whether frames of the form with the number `n` go up to the aircraft.
+#[tactic(auto, unfolding(crate::specs::Forms::form_at))]
 pub fn is_uplink_at(n: u8) -> bool
     ensures { result ≡ is_uplink (form_at n) }
 {

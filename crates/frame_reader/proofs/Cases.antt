@@ -1,6 +1,6 @@
 -- What the checks of reading come to, case by case: the premises are the tests that the code makes.
 -- Assumes nothing.
-use mathlib.Core.Path.{◌≡◌, refl, sym, ap, ap₂, ◌∙◌}
+use mathlib.Core.Path.{◌≡◌, refl, sym, ap, ap₂, ◌∙◌, subst}
 use mathlib.Core.Bool.{Bool, true, false, cond, ◌&&◌, ◌||◌, not, true≢false}
 use mathlib.Core.List.{List, ◌∷◌}
 use mathlib.Core.Logic.{◌⊎◌, inl, inr}
@@ -13,7 +13,7 @@ use borrow.Author.Tests.{le-leb, lt-leb, leb-true, leb-false, lt-ltb, le-ltb, lt
 use Rattle.refusal.specs.declared.Refusal.{Refusal}
 use Rattle.refusal.specs.declared.Refusal.TheVariants.{OutOfRange, Malformed, FormatError, PacketTooLong}
 use Rattle.refusal.specs.Numbers.{number_of}
-use Rattle.refusal.specs.Positions.{passed, refused_at, check_at}
+use Rattle.refusal.specs.Positions.{refused_at, check_at}
 use Rattle.refusal.proofs.Checks.{both_true}
 use Rattle.lists.specs.Lists.{over}
 use Rattle.frame_fields.specs.Rows.{number_in}
@@ -23,6 +23,7 @@ use Rattle.frame_fields.proofs.Masks.{wrong-lt, mask_bound, wrong-at, wrong-none
 use Rattle.frame_form.specs.declared.Form.{Form}
 use Rattle.frame_form.specs.Forms.{seg_of, most_of, form_valid, form_at}
 use Rattle.frame_form.specs.Segments.{frame_length, whole_segments}
+use Rattle.frame_form.specs.Frames.{all_zero}
 use Rattle.frame_form.proofs.Forms.{segment-seven, segment-some}
 use Rattle.frame_form.proofs.Segments.{padding-below, whole-some, whole-none-over, whole-next, frame-end}
 use Rattle.frame_kinds.specs.declared.Found.{Found}
@@ -31,9 +32,10 @@ use Rattle.frame_kinds.specs.Kinds.{ten_of}
 use Rattle.frame_reader.specs.declared.Head.{Head}
 use Rattle.frame_reader.specs.Faults.{lv_of, last_of, first_end, has_second, strings_end, first_right, packet_length, length_right, length_byte, zeros_first, tail_fault, first_fault}
 use Rattle.frame_reader.specs.Reading.{found_in, fault_of, length_in, header_length, packet_in, read_checks, fault_answer, read_answer, read_bytes}
-use Rattle.frame_reader.specs.Parts.{layout_for, row_by, length_by_strings, length_for, head_by, byte_for, places_by, found_number, tail_position, Named, Headed, look_answer, look_bytes}
-use Rattle.frame_reader.proofs.Zeros.{count-le}
+use Rattle.frame_reader.specs.Parts.{layout_for, row_by, length_by_strings, length_for, head_by, byte_for, places_by, found_number, tail_position, strings_of, Named, Headed, look_answer, look_bytes}
+use Rattle.frame_reader.proofs.Zeros.{count-le, all_after, some_after}
 use Rattle.frame_reader.proofs.Rows.{Readable, readable}
+use Rattle.std.specs.Prelude.{Ok}
 
 -- ---- the answers, from the checks
 
@@ -50,7 +52,7 @@ module _ (form : ℕ) (frame : List ℕ) (why : Refusal) (at : ℕ) (e : read_ch
   unfolding fault_answer
   refused-fault = rw e
 
-module _ (form : ℕ) (frame : List ℕ) (e : read_checks (form_at form) frame ≡ passed) where
+module _ (form : ℕ) (frame : List ℕ) (e : read_checks (form_at form) frame ≡ Ok tt) where
   pub short-answer : (places : ℕ) → places < 10 → read_answer form frame places ≡ 5
   unfolding read_answer
   short-answer places h = rw (e, lt-leb 10 places h)
@@ -93,7 +95,7 @@ module _ (form : Form) (frame : List ℕ) (valid : form_valid form ≡ true) (wh
 
   -- and else judged by the packet's length
   pub no-fault : (n : ℕ) → fault_of (found_in frame) form frame ≡ length frame → length_in (found_in frame) form frame ≡ n
-      → read_checks form frame ≡ check_at (leb n (most_of form)) PacketTooLong (most_of form) passed
+      → read_checks form frame ≡ check_at (leb n (most_of form)) PacketTooLong (most_of form) (Ok tt)
   unfolding read_checks
   no-fault n e en = rw (valid, whole, e, eq-eqb (length frame) (length frame) refl, en)
 
@@ -335,7 +337,7 @@ module _ (form : Form) (frame : List ℕ) (found : Found) (nm : Named form frame
       tail-refused h = fault-refused form frame nm.valid nm.whole (tail_fault (seg_of form) (length_of form (layout_for form found) frame) frame) fault-is h
 
       pub tail-left : tail_fault (seg_of form) (length_of form (layout_for form found) frame) frame ≡ length frame
-          → read_checks form frame ≡ check_at (leb (length_of form (layout_for form found) frame) (most_of form)) PacketTooLong (most_of form) passed
+          → read_checks form frame ≡ check_at (leb (length_of form (layout_for form found) frame) (most_of form)) PacketTooLong (most_of form) (Ok tt)
       tail-left e =
           no-fault form frame nm.valid nm.whole (length_of form (layout_for form found) frame) (fault-is ∙ e)
           (ap (λ (f : Found). length_in f form frame) nm.found-is ∙ (read_by form frame found nm.some).1 ∙ (told more).packet)
@@ -440,22 +442,88 @@ module _ (form : Form) (found : Found) (frame : List ℕ) (head : Head) (s : Hea
         let e = ap (λ (x : ℕ). tail_fault (seg_of form) x frame) seen-length in
         tail-refused form frame found s.named w more (omega (arith, e, h)) ∙ ap (refused_at FormatError) (sym e)
 
-    pub seen-left : tail_fault (seg_of form) n frame ≡ length frame → read_checks form frame ≡ check_at (leb n (most_of form)) PacketTooLong (most_of form) passed
+    pub seen-left : tail_fault (seg_of form) n frame ≡ length frame → read_checks form frame ≡ check_at (leb n (most_of form)) PacketTooLong (most_of form) (Ok tt)
     seen-left e =
         tail-left form frame found s.named w more (sym (ap (λ (x : ℕ). tail_fault (seg_of form) x frame) seen-length) ∙ e)
-        ∙ ap (λ (x : ℕ). check_at (leb x (most_of form)) PacketTooLong (most_of form) passed) (sym seen-length)
+        ∙ ap (λ (x : ℕ). check_at (leb x (most_of form)) PacketTooLong (most_of form) (Ok tt)) (sym seen-length)
 
     pub seen-long : tail_fault (seg_of form) n frame ≡ length frame → most_of form < n → read_checks form frame ≡ refused_at PacketTooLong (most_of form)
-    seen-long e h = seen-left e ∙ ap (λ (b : Bool). check_at b PacketTooLong (most_of form) passed) (lt-leb n (most_of form) h)
+    seen-long e h = seen-left e ∙ ap (λ (b : Bool). check_at b PacketTooLong (most_of form) (Ok tt)) (lt-leb n (most_of form) h)
 
-    pub seen-reads : tail_fault (seg_of form) n frame ≡ length frame → n ≤ most_of form → read_checks form frame ≡ passed
-    seen-reads e h = seen-left e ∙ ap (λ (b : Bool). check_at b PacketTooLong (most_of form) passed) (le-leb n (most_of form) h)
+    pub seen-reads : tail_fault (seg_of form) n frame ≡ length frame → n ≤ most_of form → read_checks form frame ≡ Ok tt
+    seen-reads e h = seen-left e ∙ ap (λ (b : Bool). check_at b PacketTooLong (most_of form) (Ok tt)) (le-leb n (most_of form) h)
 
--- then its position is that of the tail
+-- none of the three faults that are asked together: the padding decides, and then the packet's
+-- length
+module _ (form : Form) (found : Found) (frame : List ℕ) (head : Head) (s : Headed form frame found head) (seg : ℕ) (es : seg ≡ seg_of form)
+    (t : (not (eqb head.wrong 0) || eqb head.len 0 || leb seg (length frame - head.len)) ≡ false) where
+  clean : (wrong_of (layout_for form found) frame ≡ 0) × (length_of form (layout_for form found) frame ≡ 0 → ⊥) × (tail_fault (seg_of form) head.len frame ≡ head.len + zeros_first (drop head.len frame))
+  clean = none-bad form found frame head s seg es t
+
+  pub clean-packet : (packet_length (seg_of form) (layout_for form found) frame ≡ head.len) × (head.size ≤ head.len)
+  clean-packet = seen-packet form found frame head s clean.0 clean.1
+
+  padded : all_zero (drop head.len frame) ≡ true → tail_fault (seg_of form) head.len frame ≡ length frame
+  padded z =
+      clean.2 ∙ omega (arith, all_after head.len frame z, count-le (drop head.len frame), length-drop head.len frame, seen-inside form found frame head s)
+
+  pub clean-long : all_zero (drop head.len frame) ≡ true → most_of form < head.len → read_checks form frame ≡ refused_at PacketTooLong (most_of form)
+  clean-long z h = seen-long form found frame head s clean.0 clean.1 (padded z) h
+
+  pub clean-reads : all_zero (drop head.len frame) ≡ true → head.len ≤ most_of form → read_checks form frame ≡ Ok tt
+  clean-reads z h = seen-reads form found frame head s clean.0 clean.1 (padded z) h
+
+  pub clean-padding : all_zero (drop head.len frame) ≡ false → read_checks form frame ≡ refused_at FormatError (tail_fault (seg_of form) head.len frame)
+  clean-padding z = seen-tail form found frame head s clean.0 clean.1 (omega (arith, clean.2, some_after head.len frame z))
+
+-- what was found says whether strings follow
+strings-are : (form : Form) (f : Found) → strings_of f ≡ (layout_for form f).strings
+strings-are form Route = refl
+strings-are form Unknown = refl
+strings-are form (Known k) = refl
+
+-- ---- what the calls do then
+
+-- they refuse
+pub refused-call : (form : ℕ) (frame packet : List ℕ) (why : Refusal) (at : ℕ) → read_checks (form_at form) frame ≡ refused_at why at
+    → (number_of why ≡ read_answer form frame (length packet)) × (packet ≡ read_bytes form frame packet)
+refused-call form frame packet why at e = (sym (refused-answer form frame why at e (length packet)), sym (refused-bytes form frame why at e packet))
+
+module _ (form : ℕ) (found : Found) (frame : List ℕ) (head : Head) (s : Headed (form_at form) frame found head) where
+  -- a header has 1 to 7 bytes, and its wrong bits are its own
+  pub seen-sizes : (1 ≤ head.size) × (head.size ≤ 7)
+  seen-sizes = let h = header-inside (form_at form) frame found s.named in omega (arith, h.0, h.1, seen_size (form_at form) found frame head s)
+
+  pub seen-small : head.wrong < 2 ^ (8 * head.size)
+  seen-small =
+      let small : wrong_of (layout_for (form_at form) found) frame < 2 ^ (8 * head.size) =
+      subst (λ (x : ℕ). wrong_of (layout_for (form_at form) found) frame < 2 ^ (8 * x)) (sym (seen_size (form_at form) found frame head s)) (wrong-small (form_at form) frame found s.named) in
+      omega (arith, seen-wrong (form_at form) found frame head s, small)
+
+  -- the position of a fault is that of the highest wrong bit
+  pub wrong-position : (head.wrong ≡ 0 → ⊥) → count_leading_zeros (8 * head.size) head.wrong / 8 ≡ fault_answer form frame
+  wrong-position h =
+      ap₂ (λ (x w : ℕ). count_leading_zeros (8 * x) w / 8) (seen_size (form_at form) found frame head s) (seen-wrong (form_at form) found frame head s)
+      ∙ sym (refused-fault form frame FormatError _ (wrong-refused (form_at form) frame found s.named (λ z. h (seen-wrong (form_at form) found frame head s ∙ z))))
+
+  -- or of the length that is wrong
+  pub length-position : head.wrong ≡ 0 → head.len ≡ 0 → byte_for frame head.size (strings_of found) head.number ≡ fault_answer form frame
+  length-position w z =
+      let f = form_at form in
+      (λ i. byte_for frame (seen_size f found frame head s i) (strings-are f found i) (seen-header f found frame head s i))
+      ∙ sym (refused-fault form frame FormatError _ (length-refused f frame found s.named (sym (seen-wrong f found frame head s) ∙ w) (sym (seen-length f found frame head s) ∙ z)))
+
+-- or that of the tail
 pub seen-position : (form : ℕ) (found : Found) (frame : List ℕ) (head : Head) → Headed (form_at form) frame found head
-    → wrong_of (layout_for (form_at form) found) frame ≡ 0 → (length_of (form_at form) (layout_for (form_at form) found) frame ≡ 0 → ⊥) → tail_position (form_at form) head.len frame ≡ fault_answer form frame
-seen-position form found frame head s w more = go (ltb t (length frame)) refl
+    → head.wrong ≡ 0 → (head.len ≡ 0 → ⊥) → tail_position (form_at form) head.len frame ≡ fault_answer form frame
+seen-position form found frame head s none some = go (ltb t (length frame)) refl
   where
+    w : wrong_of (layout_for (form_at form) found) frame ≡ 0
+    w = sym (seen-wrong (form_at form) found frame head s) ∙ none
+
+    more : length_of (form_at form) (layout_for (form_at form) found) frame ≡ 0 → ⊥
+    more z = some (seen-length (form_at form) found frame head s ∙ z)
+
     n : ℕ
     n = head.len
 
@@ -474,6 +542,12 @@ seen-position form found frame head s w more = go (ltb t (length frame)) refl
     go false e = rw e (long (ltb (most_of (form_at form)) n) refl e)
 
 -- ---- the position of the tail, by the tests that the code makes
+
+-- where it is, in a frame of whole segments
+pub whole-tail : (form : Form) (frame : List ℕ) (n seg at : ℕ) → length frame % seg_of form ≡ 0 → seg ≡ seg_of form → n ≤ length frame
+    → at ≡ n + zeros_first (drop n frame) → tail_fault (seg_of form) n frame ≡ min (length frame - (length frame - n) / seg * seg) at
+whole-tail form frame n seg at whole es inside ea =
+    tail-is (seg_of form) n frame (segment-some form) whole inside _ at (ap (λ (x : ℕ). length frame - (length frame - n) / x * x) es) ea
 
 module _ (form : Form) (n : ℕ) (frame : List ℕ) (end at : ℕ) (is : tail_fault (seg_of form) n frame ≡ min end at) where
   pub at_first : at < end → at < length frame → at ≡ tail_position form n frame

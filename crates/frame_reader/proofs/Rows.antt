@@ -2,10 +2,9 @@
 -- its values are, and where LV is.
 -- Assumes nothing.
 use mathlib.Core.Path.{◌≡◌, refl, sym, ap}
-use mathlib.Core.Bool.{Bool, true, false, cond, true≢false}
-use mathlib.Core.List.{[], ◌∷◌}
-use Prim.Native.Nat.{ℕ, ◌/◌, ◌%◌, ◌^◌, ◌≤◌}
-use native.Mathlib.Nat.{div-one, mod-one}
+use mathlib.Core.Bool.{Bool, true, true≢false}
+use Prim.Native.Nat.{ℕ, ◌/◌, ◌%◌, ◌≤◌}
+use native.Mathlib.Nat.{div-one}
 use native.Mathlib.Omega.{arith}
 use lib.ListN.{get_or}
 use Rattle.frame_fields.specs.Rows.{unpack}
@@ -15,48 +14,13 @@ use Rattle.frame_fields.proofs.Tags.{Sound}
 use Rattle.frame_form.specs.declared.Form.{Form}
 use Rattle.frame_form.specs.Forms.{is_uplink}
 use Rattle.frame_kinds.specs.declared.Kind.{Kind}
-use Rattle.frame_kinds.specs.declared.Kind.TheVariants.{CallRequest, CallAccept}
 use Rattle.frame_kinds.specs.declared.Found.{Found}
 use Rattle.frame_kinds.specs.declared.Found.TheVariants.{Known, Route, Unknown}
 use Rattle.frame_kinds.specs.Kinds.{layout_in}
 use Rattle.frame_kinds.proofs.Table.{sound, sound-route, ends-in}
 use Rattle.frame_kinds.proofs.Stored.{header-few}
 use Rattle.frame_reader.specs.Faults.{last_of}
-use Rattle.frame_reader.specs.Parts.{layout_for, HeaderRow, row_by, spot, spots, places_by}
-
--- ---- what a header is read by
-
--- the CALL packets, in both directions
-abbrev call_row : ℕ → ℕ → ℕ → Bool → HeaderRow
-call_row want ground air up = record { size = 5; lv = true; strings = false; want = want; mask = cond up ground air }
-
-pub call-request-row : (up : Bool) → call_row 0x5000000000 0xFF40C00000 0xFF40000000 up ≡ row_by (layout_in up CallRequest)
-unfolding row_by
-call-request-row true = refl
-call-request-row false = refl
-
-pub call-accept-row : (up : Bool) → call_row 0x5400000000 0xFFC0000060 0xFF00000060 up ≡ row_by (layout_in up CallAccept)
-unfolding row_by
-call-accept-row true = refl
-call-accept-row false = refl
-
--- ---- where the values are
-
--- of a field of no bits the value is 0
-none-value : (h s : ℕ) → 0 ≡ h / 2 ^ s % 2 ^ 0
-none-value h s = sym (mod-one (h / 2 ^ s))
-
-pub call-request-ground : (h : ℕ) → spots h 0x1F18141410080705 0x0106020004080102 1 ≡ places_by (layout_in true CallRequest) h
-call-request-ground h =
-    ap (λ (x : ℕ). spot h 31 1 ∷ spot h 24 6 ∷ spot h 20 2 ∷ x ∷ spot h 16 4 ∷ spot h 8 8 ∷ spot h 7 1 ∷ spot h 5 2 ∷ spot h 4 1 ∷ []) (none-value h 20)
-
-pub call-request-air : (h : ℕ) → spots h 0x1F18181410080705 0x0106000404080102 1 ≡ places_by (layout_in false CallRequest) h
-call-request-air h =
-    ap (λ (x : ℕ). spot h 31 1 ∷ spot h 24 6 ∷ x ∷ spot h 20 4 ∷ spot h 16 4 ∷ spot h 8 8 ∷ spot h 7 1 ∷ spot h 5 2 ∷ spot h 4 1 ∷ []) (none-value h 24)
-
-pub call-accept-ground : (h : ℕ) → spots h 0x1E18141008070400 0x0006040408010100 0 ≡ places_by (layout_in true CallAccept) h
-call-accept-ground h =
-    ap (λ (x : ℕ). x ∷ spot h 24 6 ∷ spot h 20 4 ∷ spot h 16 4 ∷ spot h 8 8 ∷ spot h 7 1 ∷ spot h 4 1 ∷ 0 ∷ 0 ∷ []) (none-value h 30)
+use Rattle.frame_reader.specs.Parts.{layout_for}
 
 -- ---- what tells the packet's length
 

@@ -2,10 +2,10 @@
 -- 13", after 1 for an invalid form; and document 02, Q-5, for the position that each check gives:
 -- "For refusal 2 it is the frame's length, for 13 the largest size", for 3 the first fault.
 -- Assumes nothing.
-use Rattle.std.specs.Prelude.{cond, List, [], ℕ, ◌+◌, ◌-◌, ◌*◌, leb, eqb, length, get_or}
+use Rattle.std.specs.Prelude.{cond, List, [], ℕ, ◌+◌, ◌-◌, ◌*◌, leb, eqb, length, get_or, Ok, Err}
 use Rattle.refusal.specs.declared.Refusal.TheVariants.{OutOfRange, Malformed, FormatError, PacketTooLong, OutputTooShort}
 use Rattle.refusal.specs.Numbers.{number_of}
-use Rattle.refusal.specs.Positions.{Checked, passed, refused_at, check_at, position_of}
+use Rattle.refusal.specs.Positions.{Checked, check_at, fault_position}
 use Rattle.lists.specs.Lists.{over}
 use Rattle.frame_fields.specs.Layouts.{fields, values_in, free_values}
 use Rattle.frame_form.specs.declared.Form.{Form}
@@ -57,19 +57,19 @@ read_checks form frame =
     (check_at (whole_segments (seg_of form) (length frame)) Malformed (length frame)
     (check_at (eqb (fault_of (found_in frame) form frame) (length frame)) FormatError (fault_of (found_in frame) form frame)
     (check_at (leb (length_in (found_in frame) form frame) (most_of form)) PacketTooLong (most_of form)
-    passed)))
+    (Ok tt))))
 
 -- ---- what the calls answer. A form is a number (`form_at`), an answer is one number
 
 -- the position at which reading is refused; 0 if the frame reads
 unfoldable pub fault_answer : ℕ → List ℕ → ℕ
-fault_answer form frame = position_of (read_checks (form_at form) frame)
+fault_answer form frame = fault_position (read_checks (form_at form) frame)
 
 -- a reader's answer, by its checks: the refusal number; or, if the ten bytes have places, 256 times
 -- the index where the user data starts plus 65,536 times its length; else 5
 abbrev pub read_answer_by : Checked → ℕ → ℕ → ℕ → ℕ
-read_answer_by passed start user places = cond (leb 10 places) (256 * (start + 256 * user)) (number_of OutputTooShort)
-read_answer_by (refused_at why at) start user places = number_of why
+read_answer_by (Ok tt) start user places = cond (leb 10 places) (256 * (start + 256 * user)) (number_of OutputTooShort)
+read_answer_by (Err fault) start user places = number_of fault.why
 
 -- the answer of `read`, with this many lent bytes for the packet
 unfoldable pub read_answer : ℕ → List ℕ → ℕ → ℕ
@@ -85,8 +85,8 @@ packet_in Unknown form frame = []
 -- the lent bytes afterwards, by the checks: the packet in the first ten, and past them what they
 -- held; a refusal leaves all as they were
 abbrev pub read_bytes_by : Checked → List ℕ → List ℕ → List ℕ
-read_bytes_by passed packet bytes = cond (leb 10 (length bytes)) (over packet bytes) bytes
-read_bytes_by (refused_at why at) packet bytes = bytes
+read_bytes_by (Ok tt) packet bytes = cond (leb 10 (length bytes)) (over packet bytes) bytes
+read_bytes_by (Err fault) packet bytes = bytes
 
 -- the lent bytes after `read`
 unfoldable pub read_bytes : ℕ → List ℕ → List ℕ → List ℕ

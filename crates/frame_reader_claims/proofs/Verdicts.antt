@@ -11,39 +11,40 @@ use lib.ListN.{length}
 use borrow.Author.Tests.{eqb-false, ne_eqb}
 use Rattle.refusal.specs.declared.Refusal.{Refusal}
 use Rattle.refusal.specs.declared.Refusal.TheVariants.{OutOfRange, Malformed, FormatError, PacketTooLong}
-use Rattle.refusal.specs.Positions.{Checked, passed, refused_at, check_at, checked_number, position_of}
+use Rattle.refusal.specs.Positions.{Checked, refused_at, check_at, fault_number, fault_position}
 use Rattle.frame_form.specs.declared.Form.{Form}
 use Rattle.frame_form.specs.Forms.{seg_of, most_of, form_valid}
 use Rattle.frame_form.specs.Segments.{whole_segments}
 use Rattle.frame_reader.specs.Reading.{found_in, fault_of, length_in, read_checks}
 use Rattle.frame_reader_claims.specs.FirstFault.{Placed}
+use Rattle.std.specs.Prelude.{Ok, Err}
 
 -- the four checks, over their tests and positions alone
 abbrev four_checks : Bool → Bool → Bool → Bool → ℕ → ℕ → ℕ → Checked
 four_checks valid whole right short len fault most =
-    check_at valid OutOfRange 0 (check_at whole Malformed len (check_at right FormatError fault (check_at short PacketTooLong most passed)))
+    check_at valid OutOfRange 0 (check_at whole Malformed len (check_at right FormatError fault (check_at short PacketTooLong most (Ok tt))))
 
 -- 3 comes from the third check alone, after the two before it held
 three-from : (a b c d : Bool) (len fault most at : ℕ) → four_checks a b c d len fault most ≡ refused_at FormatError at
     → (a ≡ true) × (b ≡ true) × (c ≡ false) × (at ≡ fault)
-three-from false b c d len fault most at e = absurd (omega (arith, ap checked_number e))
-three-from true false c d len fault most at e = absurd (omega (arith, ap checked_number e))
-three-from true true false d len fault most at e = (refl, refl, refl, sym (ap position_of e))
-three-from true true true false len fault most at e = absurd (omega (arith, ap checked_number e))
-three-from true true true true len fault most at e = absurd (omega (arith, ap checked_number e))
+three-from false b c d len fault most at e = absurd (omega (arith, ap fault_number e))
+three-from true false c d len fault most at e = absurd (omega (arith, ap fault_number e))
+three-from true true false d len fault most at e = (refl, refl, refl, sym (ap fault_position e))
+three-from true true true false len fault most at e = absurd (omega (arith, ap fault_number e))
+three-from true true true true len fault most at e = absurd (omega (arith, ap fault_number e))
 
 -- the refusal, if there is one
 abbrev reason_of : Checked → Refusal
-reason_of passed = FormatError
-reason_of (refused_at why at) = why
+reason_of (Ok tt) = FormatError
+reason_of (Err fault) = fault.why
 
 -- each check gives its own refusal at its own position
 placed-from : (a b c d : Bool) (len fault most : ℕ) (why : Refusal) (at : ℕ) → four_checks a b c d len fault most ≡ refused_at why at
     → ((why ≡ OutOfRange) × (at ≡ 0)) ⊎ (((why ≡ Malformed) × (at ≡ len)) ⊎ (((why ≡ PacketTooLong) × (at ≡ most)) ⊎ (why ≡ FormatError)))
-placed-from false b c d len fault most why at e = inl (sym (ap reason_of e), sym (ap position_of e))
-placed-from true false c d len fault most why at e = inr (inl (sym (ap reason_of e), sym (ap position_of e)))
+placed-from false b c d len fault most why at e = inl (sym (ap reason_of e), sym (ap fault_position e))
+placed-from true false c d len fault most why at e = inr (inl (sym (ap reason_of e), sym (ap fault_position e)))
 placed-from true true false d len fault most why at e = inr (inr (inr (sym (ap reason_of e))))
-placed-from true true true false len fault most why at e = inr (inr (inl (sym (ap reason_of e), sym (ap position_of e))))
+placed-from true true true false len fault most why at e = inr (inr (inl (sym (ap reason_of e), sym (ap fault_position e))))
 placed-from true true true true len fault most why at e = inr (inr (inr (sym (ap reason_of e))))
 
 -- reading is refused with 3: the form is valid, the frame is whole segments, and its first fault,

@@ -7,8 +7,6 @@ use Prim.Native.Nat.{ℕ, ◌+◌, ◌*◌}
 use native.Mathlib.Omega.{arith}
 use lib.ListN.{length, get_or, take, drop, replicate}
 use borrow.Author.Tests.{eq-eqb, ne_eqb}
-use Rattle.refusal.specs.declared.Verdict.{Verdict}
-use Rattle.refusal.specs.declared.Verdict.TheVariants.{Done, Refused}
 use Rattle.lists.specs.Lists.{over}
 use Rattle.frame_fields.specs.Rows.{bytes_of}
 use Rattle.frame_fields.specs.Layouts.{header_number}
@@ -25,11 +23,13 @@ use Rattle.frame_writer.specs.declared.Made.{Made}
 use Rattle.frame_writer.specs.Parts.{Heading}
 use Rattle.frame_writer.specs.Writing.{frame_by, write_verdict, output_by, answer_by, places_fit, write_answer_by, write_answer, write_bytes_by, write_bytes}
 use Rattle.frame_writer.proofs.Verdicts.{passed}
+use Rattle.refusal.specs.Numbers.{Verdict}
+use Rattle.std.specs.Prelude.{Ok, Err}
 
 -- the lent output is the same for two frames that are equal if one is written
-same-output : (v : Verdict) (a b out : List ℕ) → (v ≡ Done → a ≡ b) → output_by v a out ≡ output_by v b out
-same-output Done a b out e = ap (λ (frame : List ℕ). over frame out) (e refl)
-same-output (Refused why) a b out e = refl
+same-output : (v : Verdict) (a b out : List ℕ) → (v ≡ Ok tt → a ≡ b) → output_by v a out ≡ output_by v b out
+same-output (Ok tt) a b out e = ap (λ (frame : List ℕ). over frame out) (e refl)
+same-output (Err why) a b out e = refl
 
 -- a packet of kind k, written with the header that m says
 module _ (form : ℕ) (k : Kind) (places user out : List ℕ) (m : Made) (h : Heading (form_at form) k places (length user) m) where
@@ -49,7 +49,7 @@ module _ (form : ℕ) (k : Kind) (places user out : List ℕ) (m : Made) (h : He
   frame size x = framed (seg_of (form_at form)) (bytes_of size x) user
 
   -- if the checks are passed, it is the number of the definitions
-  same-frame : verdict (places_fit (form_at form) k places (length user)) (size_of k) ≡ Done
+  same-frame : verdict (places_fit (form_at form) k places (length user)) (size_of k) ≡ Ok tt
       → frame (size_of k) (number (size_of k)) ≡ frame_by (form_at form) k (take (value_count k) places) user
   unfolding frame_by
   same-frame done =
@@ -93,7 +93,7 @@ module _ (form : ℕ) (bytes : List ℕ) where
 -- ---- a frame of any header and any bytes after it
 
 -- written, with the padding of the form
-pub put-done : (v : Verdict) (seg size number pad : ℕ) (user out last : List ℕ) → v ≡ Done → pad ≡ padding seg (size + length user)
+pub put-done : (v : Verdict) (seg size number pad : ℕ) (user out last : List ℕ) → v ≡ Ok tt → pad ≡ padding seg (size + length user)
     → last ≡ (bytes_of size number ++ (user ++ replicate pad 0)) ++ drop (size + length user + pad) out
     → (256 * (size + length user + pad) ≡ answer_by v (frame_length seg (size + length user))) × (last ≡ output_by v (framed seg (bytes_of size number) user) out)
 unfolding framed

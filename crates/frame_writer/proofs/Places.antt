@@ -4,15 +4,13 @@
 use mathlib.Core.Path.{◌≡◌, refl, sym, ap, ap₂, ◌∙◌}
 use mathlib.Core.Bool.{Bool, true, false, cond, ◌&&◌, ◌||◌, and_assoc, and_comm, and-true}
 use mathlib.Core.List.{List, [], ◌∷◌, ◌++◌}
-use Prim.Native.Nat.{ℕ, zero, suc, ◌+◌, ◌-◌, ◌*◌, ◌/◌, ◌%◌, ◌^◌, ◌<◌}
+use Prim.Native.Nat.{ℕ, zero, suc, ◌+◌, ◌-◌, ◌*◌, ◌^◌, ◌<◌}
 use native.Mathlib.Nat.{zero-mul}
 use native.Mathlib.Omega.{arith}
 use lib.Dec.{eqb, ltb}
-use lib.ListN.{length, get_or, take, drop, replicate, length-drop}
+use lib.ListN.{length, take, drop, replicate, length-drop}
 use borrow.Author.Tests.{eqb-true, ne_eqb, ltb-true, le-ltb}
 use Rattle.refusal.proofs.Checks.{both_true}
-use Rattle.lists.specs.Lists.{list_from}
-use Rattle.lists.proofs.Lists.{is-from}
 use Rattle.frame_fields.specs.Layouts.{Field, fixed, free, lv, Layout, fields, has_lv, within, header_number}
 use Rattle.frame_fields.specs.Masks.{want}
 use Rattle.frame_fields.proofs.Sums.{free_only, free_shifts, lv_weight, placed, number-sum, shift_count, within-parts, placed-parts}
@@ -26,51 +24,9 @@ use Rattle.frame_writer.specs.declared.Made.{Made}
 use Rattle.frame_writer.specs.Writing.{values_fit, places_fit}
 use Rattle.frame_writer.specs.Parts.{widths_in, shifts_in, frees, in_place, sum_at, Row, Heading}
 
--- ---- the places one by one
-
-abbrev pub place : List ℕ → ℕ → ℕ
-place vs i = get_or vs i 0
-
--- a list is given by its elements: one of a known length is then spelled out by computation
-all-nine : (vs : List ℕ) → length vs ≡ 9
-    → vs ≡ place vs 0 ∷ place vs 1 ∷ place vs 2 ∷ place vs 3 ∷ place vs 4 ∷ place vs 5 ∷ place vs 6 ∷ place vs 7 ∷ place vs 8 ∷ []
-unfolding list_from
-all-nine vs e = is-from 9 vs (place vs) e (λ i h. refl)
-
 -- nine tests, joined as the code and as the definitions join them
 joined : (a b c d e f g h i : Bool) → (a && b && c && d && e && f && g && h && i) ≡ (a && (b && (c && (d && (e && (f && (g && (h && (i && true)))))))))
 joined a b c d e f g h i = simp (and_assoc, and-true)
-
-pub nine-tests : (w : ℕ) (vs : List ℕ) → length vs ≡ 9 → (a b c d e f g h i : Bool)
-    → a ≡ ltb (place vs 0) (2 ^ (w / 2 ^ 32 % 16))
-    → b ≡ ltb (place vs 1) (2 ^ (w / 2 ^ 28 % 16))
-    → c ≡ ltb (place vs 2) (2 ^ (w / 2 ^ 24 % 16))
-    → d ≡ ltb (place vs 3) (2 ^ (w / 2 ^ 20 % 16))
-    → e ≡ ltb (place vs 4) (2 ^ (w / 2 ^ 16 % 16))
-    → f ≡ ltb (place vs 5) (2 ^ (w / 2 ^ 12 % 16))
-    → g ≡ ltb (place vs 6) (2 ^ (w / 2 ^ 8 % 16))
-    → h ≡ ltb (place vs 7) (2 ^ (w / 2 ^ 4 % 16))
-    → i ≡ ltb (place vs 8) (2 ^ (w % 16))
-    → (a && b && c && d && e && f && g && h && i) ≡ within (frees (widths_in w)) vs
-nine-tests w vs nine a b c d e f g h i e0 e1 e2 e3 e4 e5 e6 e7 e8 =
-    joined a b c d e f g h i
-    ∙ (λ x. e0 x && (e1 x && (e2 x && (e3 x && (e4 x && (e5 x && (e6 x && (e7 x && (e8 x && true)))))))))
-    ∙ ap (within (frees (widths_in w))) (sym (all-nine vs nine))
-
--- nine summands
-pub nine-sums : (n w : ℕ) (vs : List ℕ) → length vs ≡ 9 → (a b c d e f g h i : ℕ)
-    → a ≡ in_place (place vs 0) (n / 2 ^ 48 % 64 % 48) (w / 2 ^ 32 % 16)
-    → b ≡ in_place (place vs 1) (n / 2 ^ 42 % 64 % 48) (w / 2 ^ 28 % 16)
-    → c ≡ in_place (place vs 2) (n / 2 ^ 36 % 64 % 48) (w / 2 ^ 24 % 16)
-    → d ≡ in_place (place vs 3) (n / 2 ^ 30 % 64 % 48) (w / 2 ^ 20 % 16)
-    → e ≡ in_place (place vs 4) (n / 2 ^ 24 % 64 % 48) (w / 2 ^ 16 % 16)
-    → f ≡ in_place (place vs 5) (n / 2 ^ 18 % 64 % 48) (w / 2 ^ 12 % 16)
-    → g ≡ in_place (place vs 6) (n / 2 ^ 12 % 64 % 48) (w / 2 ^ 8 % 16)
-    → h ≡ in_place (place vs 7) (n / 2 ^ 6 % 64 % 48) (w / 2 ^ 4 % 16)
-    → i ≡ in_place (place vs 8) (n % 64 % 48) (w % 16)
-    → a + b + c + d + e + f + g + h + i ≡ sum_at (shifts_in n) (widths_in w) vs
-nine-sums n w vs nine a b c d e f g h i e0 e1 e2 e3 e4 e5 e6 e7 e8 =
-    omega (arith, e0, e1, e2, e3, e4, e5, e6, e7, e8) ∙ ap (sum_at (shifts_in n) (widths_in w)) (sym (all-nine vs nine))
 
 -- ---- a row's numbers
 

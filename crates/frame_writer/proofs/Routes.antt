@@ -4,14 +4,12 @@ use mathlib.Core.Path.{◌≡◌, refl, sym, ap, ◌∙◌}
 use mathlib.Core.Bool.{Bool, true, false, cond}
 use mathlib.Core.List.{List, [], ◌∷◌, ◌++◌}
 use mathlib.Core.Logic.{inl, inr}
-use Prim.Native.Nat.{ℕ, ◌+◌, ◌*◌, ◌<◌}
+use Prim.Native.Nat.{ℕ, ◌+◌, ◌*◌}
 use native.Mathlib.Omega.{arith}
 use lib.Dec.{eqb}
 use lib.ListN.{length, drop, replicate, length-append}
-use borrow.Author.Tests.{eq-eqb, ne_eqb, lt-leb}
-use Rattle.refusal.specs.declared.Verdict.{Verdict}
-use Rattle.refusal.specs.declared.Verdict.TheVariants.{Done}
-use Rattle.refusal.specs.Numbers.{verdict_number}
+use borrow.Author.Tests.{lt-leb}
+use Rattle.refusal.specs.Numbers.{refusal_number, Verdict}
 use Rattle.frame_fields.specs.Rows.{bytes_of}
 use Rattle.frame_fields.specs.Layouts.{header_number}
 use Rattle.frame_form.specs.declared.Form.{Form}
@@ -25,20 +23,9 @@ use Rattle.frame_writer.specs.Routes.{route_after, route_length, route_fits, rou
 use Rattle.frame_writer.specs.Parts.{SameOrLong}
 use Rattle.frame_writer.proofs.Verdicts.{passed, refused}
 use Rattle.frame_writer.proofs.Answers.{put-done}
+use Rattle.std.specs.Prelude.{Ok}
 
 -- ---- the length
-
-pub with-data : (o t e : ℕ) → o ≡ 1 → SameOrLong (2 + (t + (1 + e))) (route_length o t e)
-with-data o t e q = inl (rw (eq-eqb o 1 q))
-
-pub without-data : (o t e : ℕ) → (o ≡ 1 → ⊥) → SameOrLong (2 + t) (route_length o t e)
-without-data o t e q = let n : route_length o t e ≡ 2 + (t + 0) = rw (ne_eqb o 1 q) in inl (omega (arith, n))
-
-pub table-long : (o t e : ℕ) → 255 < t → SameOrLong 1000 (route_length o t e)
-table-long o t e h = inr (omega arith, omega arith)
-
-pub both_long : (o t e : ℕ) → o ≡ 1 → 255 < e → SameOrLong 1000 (route_length o t e)
-both_long o t e q h = let n : route_length o t e ≡ 2 + (t + (1 + e)) = rw (eq-eqb o 1 q) in inr (omega arith, omega (arith, n))
 
 -- what follows RTL is as long
 pub after-length : (o : ℕ) (table extra : List ℕ) → 2 + length (route_after o table extra) ≡ route_length o (length table) (length extra)
@@ -78,20 +65,20 @@ module _ (form o i : ℕ) (table extra out : List ℕ) (fits : Bool) (r : ℕ) (
       ∙ ap (λ (b : Bool). write_verdict (form_at form) b (route_length o (length table) (length extra)) (length out)) ef
 
   -- a refusal
-  pub route-refused : (number : ℕ) → number ≡ verdict_number (write_verdict (form_at form) fits r (length out)) → (number ≡ 0 → ⊥)
+  pub route-refused : (number : ℕ) → number ≡ refusal_number (write_verdict (form_at form) fits r (length out)) → (number ≡ 0 → ⊥)
       → (number ≡ route_answer form o i (length table) (length extra) (length out)) × (out ≡ route_bytes form o i table extra out)
   unfolding route_answer route_bytes
-  route-refused number e some = refused said number _ (route_frame (form_at form) o i table extra) out (e ∙ ap verdict_number same) some
+  route-refused number e some = refused said number _ (route_frame (form_at form) o i table extra) out (e ∙ ap refusal_number same) some
 
   -- the length, if it passed
-  pub route-fits : write_verdict (form_at form) fits r (length out) ≡ Done → r ≡ 2 + length (route_after o table extra)
+  pub route-fits : write_verdict (form_at form) fits r (length out) ≡ Ok tt → r ≡ 2 + length (route_after o table extra)
   route-fits ok = go long
     where
       go : SameOrLong r (route_length o (length table) (length extra)) → r ≡ 2 + length (route_after o table extra)
       go (inl e) = e ∙ sym (after-length o table extra)
       go (inr p) = absurd (omega (arith, p.0, (passed (form_at form) fits r (length out) ok).few))
 
-  pub route-done : (number pad : ℕ) (last : List ℕ) → write_verdict (form_at form) fits r (length out) ≡ Done → pad ≡ padding (seg_of (form_at form)) r
+  pub route-done : (number pad : ℕ) (last : List ℕ) → write_verdict (form_at form) fits r (length out) ≡ Ok tt → pad ≡ padding (seg_of (form_at form)) r
       → number ≡ header_number route_layout 0 (o ∷ i ∷ length table ∷ [])
       → last ≡ (bytes_of 2 number ++ (route_after o table extra ++ replicate pad 0)) ++ drop (2 + length (route_after o table extra) + pad) out
       → (256 * (r + pad) ≡ route_answer form o i (length table) (length extra) (length out)) × (last ≡ route_bytes form o i table extra out)

@@ -5,7 +5,6 @@
 -- length over 255 is over the largest packet of every form.
 -- Assumes nothing.
 use Rattle.std.specs.Prelude.{Bool, cond, ◌&&◌, ◌||◌, List, [], ◌∷◌, ◌++◌, ℕ, ◌+◌, ltb, eqb, length}
-use Rattle.refusal.specs.declared.Verdict.{Verdict}
 use Rattle.frame_fields.specs.Layouts.{header}
 use Rattle.frame_form.specs.declared.Form.{Form}
 use Rattle.frame_form.specs.Forms.{seg_of, form_at}
@@ -13,6 +12,7 @@ use Rattle.frame_form.specs.Segments.{frame_length}
 use Rattle.frame_form.specs.Frames.{framed}
 use Rattle.frame_kinds.specs.Kinds.{route_layout}
 use Rattle.frame_writer.specs.Writing.{write_verdict, output_by, answer_by}
+use Rattle.refusal.specs.Numbers.{Verdict}
 
 -- what follows RTL: the table; and, if OF is 1, the length of the optional data and the data
 abbrev pub route_after : ℕ → List ℕ → List ℕ → List ℕ

@@ -4,11 +4,9 @@
 -- bytes (`ten_bytes`), an answer is one number. `user` is the user data or its length, `room` the
 -- length of the lent output.
 -- Assumes nothing.
-use Rattle.std.specs.Prelude.{Bool, cond, ◌&&◌, ◌||◌, List, [], ◌∷◌, ℕ, ◌+◌, ◌*◌, leb, eqb, length, get_or, take, drop}
+use Rattle.std.specs.Prelude.{Bool, cond, ◌&&◌, ◌||◌, List, [], ◌∷◌, ℕ, ◌+◌, ◌*◌, leb, eqb, length, get_or, take, drop, Ok, Err}
 use Rattle.refusal.specs.declared.Refusal.TheVariants.{OutOfRange, PacketTooLong, OutputTooShort, ShortForm}
-use Rattle.refusal.specs.declared.Verdict.{Verdict}
-use Rattle.refusal.specs.declared.Verdict.TheVariants.{Done, Refused}
-use Rattle.refusal.specs.Numbers.{number_of, verdict_number, value_by, check}
+use Rattle.refusal.specs.Numbers.{number_of, value_by, check, refusal_number, Verdict}
 use Rattle.lists.specs.Lists.{over}
 use Rattle.frame_fields.specs.Layouts.{fields, has_lv, within, header}
 use Rattle.frame_form.specs.declared.Form.{Form}
@@ -45,18 +43,18 @@ write_verdict form fits n room =
     (check (is_long form) ShortForm
     (check (leb n (most_of form)) PacketTooLong
     (check (leb (frame_length (seg_of form) n) room) OutputTooShort
-    Done))))
+    (Ok tt)))))
 
 -- the lent output afterwards: the frame, and beyond it what `out` held before; a refusal leaves all
 -- of `out` as it was
 abbrev pub output_by : Verdict → List ℕ → List ℕ → List ℕ
-output_by Done frame out = over frame out
-output_by (Refused why) frame out = out
+output_by (Ok tt) frame out = over frame out
+output_by (Err why) frame out = out
 
 -- a writer's answer as one number: the refusal number plus 256 times the frame's length, which is 0
 -- after a refusal
 abbrev pub answer_by : Verdict → ℕ → ℕ
-answer_by v len = verdict_number v + 256 * value_by v len
+answer_by v len = refusal_number v + 256 * value_by v len
 
 -- ---- the call. `places` are the nine bytes after the first of a packet's ten
 

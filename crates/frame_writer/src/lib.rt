@@ -5,7 +5,7 @@
 
 ghost use Rattle.std.specs.Prelude.{◌≡◌, true, cond, [], ◌∷◌, ◌++◌, suc, ◌+◌, ◌-◌, ◌*◌, ◌%◌, ◌^◌, ◌<◌, ◌≤◌, ltb, length, drop, replicate};
 ghost use Rattle.std.proofs.Math.Seq.{paste};
-ghost use Rattle.refusal.specs.Numbers.{verdict_number};
+ghost use Rattle.refusal.specs.Numbers.{refusal_number};
 ghost use Rattle.frame_fields.specs.Rows.{bytes_of};
 ghost use Rattle.frame_fields.specs.Layouts.{within, header_number};
 ghost use Rattle.frame_form.specs.Forms.{long_segment, seg_of, form_at};
@@ -26,14 +26,7 @@ fn put_eight(out: &mut [u8], n: u64)
     requires { 8 ≤ length out.old }
     ensures { out.new ≡ bytes_of 8 n ++ drop 8 out.old }
 {
-    out[0] = ((n >> 56) % 256) as u8;
-    out[1] = ((n >> 48) % 256) as u8;
-    out[2] = ((n >> 40) % 256) as u8;
-    out[3] = ((n >> 32) % 256) as u8;
-    out[4] = ((n >> 24) % 256) as u8;
-    out[5] = ((n >> 16) % 256) as u8;
-    out[6] = ((n >> 8) % 256) as u8;
-    out[7] = (n % 256) as u8;
+    out[..8].copy_from_slice(&n.to_be_bytes());
 }
 
 // Sets `n` bytes of `out` to 0, starting at index `at`.
@@ -41,11 +34,8 @@ fn clear(out: &mut [u8], at: usize, n: usize)
     requires { at + n ≤ length out.old }
     ensures { out.new ≡ paste out.old at (replicate n 0) n }
 {
-    let mut cleared = 0;
-    while cleared < n {
-        out[at + cleared] = 0;
-        cleared = cleared + 1;
-    }
+    let end = at + n;
+    out[at..end].fill(0);
 }
 
 // Writes the header (the lowest `size` bytes of `number`), the user data and `pad` zero bytes to
@@ -92,7 +82,7 @@ fn lv_of(lv: bool, pad: usize) -> u64
 // the order 1, 23, 13, 5; 0 if there is none.
 fn check_put(form: u8, fits: bool, n: usize, pad: usize, room: usize) -> u64
     requires { pad ≡ padding long_segment n }
-    ensures { result ≡ verdict_number (write_verdict (form_at form) fits n room) }
+    ensures { result ≡ refusal_number (write_verdict (form_at form) fits n room) }
 {
     if frame_form::is_form(form) & fits {
         if form == 0 {
@@ -161,8 +151,7 @@ fn at(value: u8, shift: u64, width: u64) -> u64
 }
 
 // Whether every place fits its field.
-fn all_below(places: &[u8], widths: u64) -> bool
-    requires { length places.now ≡ 9 }
+fn all_below(places: &[u8; 9], widths: u64) -> bool
     ensures { result ≡ within (frees (widths_in widths)) places.now }
 {
     below(places[0], widths >> 32)
@@ -177,8 +166,7 @@ fn all_below(places: &[u8], widths: u64) -> bool
 }
 
 // The sum of all places in the header.
-fn all_at(places: &[u8], shifts: u64, widths: u64) -> u64
-    requires { length places.now ≡ 9 }
+fn all_at(places: &[u8; 9], shifts: u64, widths: u64) -> u64
     ensures value { result ≡ sum_at (shifts_in shifts) (widths_in widths) places.now }
     ensures few { result < 9 * 2 ^ 55 }
 {
@@ -199,17 +187,17 @@ fn all_at(places: &[u8], shifts: u64, widths: u64) -> u64
 // ends, the byte counted from the header's last and the bit in that byte. `widths` has one
 // hexadecimal digit for each: the width of its field, 0 for a place that the kind has no use for.
 // User data without LV does not fit, because it could not be read back.
-fn row(p: &[u8], user: usize, size: usize, first: u8, lv: bool, shifts: u64, widths: u64) -> Made
-    requires { (length p.now ≡ 9) × (1 ≤ size) × (size ≤ 7) }
+fn row(p: &[u8; 9], user: usize, size: usize, first: u8, lv: bool, shifts: u64, widths: u64) -> Made
+    requires { (1 ≤ size) × (size ≤ 7) }
     ensures { Row size first lv shifts widths p.now user result }
 {
     let fits = all_below(p, widths) & (lv | (user == 0));
     let number = ((first as u64) << (8 * size as u64 - 8)) + all_at(p, shifts, widths);
     Made {
-        fits: fits,
-        size: size,
-        lv: lv,
-        number: number,
+        fits,
+        size,
+        lv,
+        number,
     }
 }
 
@@ -217,8 +205,7 @@ fn row(p: &[u8], user: usize, size: usize, first: u8, lv: bool, shifts: u64, wid
 // packets a row for each direction. A compiler makes code for each row, in which all of it is
 // constant. `p` are the places, `u` is the length of the user data: with short names a row is one
 // line.
-fn header_of(form: u8, kind: Kind, p: &[u8], u: usize) -> Made
-    requires { length p.now ≡ 9 }
+fn header_of(form: u8, kind: Kind, p: &[u8; 9], u: usize) -> Made
     ensures { Heading (form_at form) kind p.now u result }
 {
     match kind {
@@ -284,8 +271,7 @@ pub fn write_data(
 }
 
 // Writes a packet of kind `kind`.
-fn write_known(form: u8, kind: Kind, places: &[u8], user: &[u8], out: &mut [u8]) -> u64
-    requires { length places.now ≡ 9 }
+fn write_known(form: u8, kind: Kind, places: &[u8; 9], user: &[u8], out: &mut [u8]) -> u64
     ensures value { result ≡ write_answer_by (Found.Known kind) form places.now (length user.now) (length out.old) }
     ensures written { out.new ≡ write_bytes_by (Found.Known kind) form places.now user.now out.old }
 {
@@ -301,12 +287,14 @@ pub fn write(form: u8, packet: &[u8], user: &[u8], out: &mut [u8]) -> u64
     ensures value { result ≡ write_answer form packet.now (length user.now) (length out.old) }
     ensures written { out.new ≡ write_bytes form packet.now user.now out.old }
 {
-    if packet.len() != 10 {
+    let [number, rest @ ..] = packet else {
         return 1;
-    }
-    let found = frame_kinds::kind_at(packet[0]);
-    match found {
-        Found::Known(kind) => write_known(form, kind, &packet[1..], user, out),
+    };
+    let Ok(places) = <&[u8; 9]>::try_from(rest) else {
+        return 1;
+    };
+    match frame_kinds::kind_at(*number) {
+        Found::Known(kind) => write_known(form, kind, places, user, out),
         Found::Route => 1,
         Found::Unknown => 1,
     }

@@ -11,5 +11,5 @@ ghost use Rattle.little.specs.Little.{flag};
 pub fn flag(holds: bool) -> u8
     ensures { result ≡ flag holds }
 {
-    if holds { 1 } else { 0 }
+    u8::from(holds)
 }

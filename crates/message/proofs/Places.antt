@@ -1,7 +1,6 @@
 -- Frames in a buffer, by the place of one: the frame there, and the rest.
 -- Assumes nothing.
 use mathlib.Core.Path.{◌≡◌, refl, sym, ap, ◌∙◌}
-use mathlib.Core.Bool.{Bool, true, false}
 use mathlib.Core.List.{List, [], ◌∷◌}
 use Prim.Native.Nat.{ℕ, ◌+◌, ◌-◌, ◌≤◌, ◌<◌}
 use native.Mathlib.Numerals.{add-one}
@@ -9,28 +8,18 @@ use native.Mathlib.Omega.{arith}
 use lib.Dec.{eqb, eqb-suc-zero}
 use lib.ListN.{length, take, drop, get_or, length-drop, drop_of_length-le}
 use lib.Seq.{drop-drop, drop-cons, length-take-le}
-use borrow.Author.Tests.{eq-eqb, ne_eqb, eqb-true, eqb-false}
 use Rattle.lists.specs.Frames.{parts_of, sum, is_none}
+use Rattle.lists.proofs.Frames.{sum-here}
 
 -- ---- lengths
-
-pub sum-here : (ls : List ℕ) (i : ℕ) → i < length ls → sum (drop i ls) ≡ get_or ls i 0 + sum (drop (i + 1) ls)
-sum-here ls i h = rw (add-one, drop-cons ls i 0 h)
-
-pub sum-end : (ls : List ℕ) (i : ℕ) → length ls ≤ i → sum (drop i ls) ≡ 0
-sum-end ls i h = ap sum (drop_of_length-le ls {i = i} h)
-
--- what is left of n when s is taken from it
-pub left-none : (rest s n : ℕ) → rest + s ≡ n → eqb rest 0 ≡ eqb s n
-left-none rest s n e = go (eqb rest 0) refl
-  where
-    go : (b : Bool) → eqb rest 0 ≡ b → b ≡ eqb s n
-    go true t = sym (eq-eqb s n (omega (arith, eqb-true rest 0 t)))
-    go false t = let z : rest ≡ 0 → ⊥ = eqb-false rest 0 t in sym (ne_eqb s n (λ q. z (omega arith)))
 
 pub none-length : {A : Type 0} (xs : List A) → is_none xs ≡ eqb (length xs) 0
 none-length [] = refl
 none-length (x ∷ xs) = sym (eqb-suc-zero (length xs))
+
+-- what is left of n when s is taken from it
+left-none : (rest s n : ℕ) → rest + s ≡ n → eqb rest 0 ≡ eqb s n
+left-none rest s n e = grind arith
 
 -- no length comes from place j on
 pub last-is : (ls : List ℕ) (j : ℕ) → j ≤ length ls → is_none (drop j ls) ≡ eqb j (length ls)
@@ -64,8 +53,8 @@ at-start ls bytes e = record { index = omega arith; place = omega (arith, e) }
 
 module _ (ls bytes : List ℕ) (p i : ℕ) (v : At ls bytes p i) (h : i < length ls) where
   -- the frame lies inside the buffer, and has its length
-  pub frame-in : (p + get_or ls i 0 ≤ length bytes) × (length (take (get_or ls i 0) (drop p bytes)) ≡ get_or ls i 0)
-  frame-in =
+  pub frame_in : (p + get_or ls i 0 ≤ length bytes) × (length (take (get_or ls i 0) (drop p bytes)) ≡ get_or ls i 0)
+  frame_in =
       let inside : p + get_or ls i 0 ≤ length bytes = omega (arith, sum-here ls i h, v.place) in
       (inside, length-take-le (get_or ls i 0) (drop p bytes) (simp length-drop (omega arith)))
 

@@ -10,9 +10,7 @@ use lib.ListN.{length, drop, length-drop}
 use borrow.Author.Tests.{leb-true, leb-false, ltb-true, eqb-true}
 use Rattle.refusal.specs.declared.Refusal.{Refusal}
 use Rattle.refusal.specs.declared.Refusal.TheVariants.{OutOfRange, Malformed, FormatError, PacketTooLong}
-use Rattle.refusal.specs.declared.Verdict.{Verdict}
-use Rattle.refusal.specs.declared.Verdict.TheVariants.{Done, Refused}
-use Rattle.refusal.specs.Positions.{Checked, passed, refused_at, check_at, all_at, position_of}
+use Rattle.refusal.specs.Positions.{Checked, check_at, all_at, fault_position}
 use Rattle.refusal.proofs.Checks.{both_true}
 use Rattle.frame_fields.specs.Layouts.{Layout, fields, has_lv, wrong_byte}
 use Rattle.frame_form.specs.declared.Form.{Form}
@@ -28,11 +26,14 @@ use Rattle.frame_kinds.proofs.Stored.{header-few}
 use Rattle.frame_reader.specs.Faults.{lv_of, first_end, has_second, strings_end, first_right, packet_length, length_right, length_byte, zeros_first, tail_fault, first_fault}
 use Rattle.frame_reader.specs.Reading.{found_in, fault_of, length_in, values_as, read_checks}
 use Rattle.frame_reader.proofs.Zeros.{count-le}
-use Rattle.frame.specs.declared.MaybeData.{MaybeData}
 use Rattle.frame.specs.Packets.{packet_of, as_data}
 use Rattle.frame.specs.Reading.{read_by, read_of}
-use Rattle.frame.proofs.Contents.{inside}
+use Rattle.frame.proofs.OneLayout.{inside}
 use Rattle.message.specs.Joining.{packet_verdict, turn_checks}
+use Rattle.refusal.specs.Numbers.{Verdict}
+use Rattle.std.specs.Prelude.{Ok, Err, Option}
+use Rattle.refusal.specs.declared.Fault.{Fault}
+use Rattle.frame.specs.declared.Data.{Data as DataFields}
 
 -- ---- the first fault of a frame
 
@@ -99,11 +100,11 @@ length-inside form (Known k) frame whole none =
 -- ---- reading
 
 -- a check and those after it give no position past n
-pub check-near : (b : Bool) (why : Refusal) (at n : ℕ) (rest : Checked) → (b ≡ false → at ≤ n) → (b ≡ true → position_of rest ≤ n) → position_of (check_at b why at rest) ≤ n
+pub check-near : (b : Bool) (why : Refusal) (at n : ℕ) (rest : Checked) → (b ≡ false → at ≤ n) → (b ≡ true → fault_position rest ≤ n) → fault_position (check_at b why at rest) ≤ n
 check-near true why at n rest here later = later refl
 check-near false why at n rest here later = here refl
 
-checks-near : (form : Form) (frame : List ℕ) → position_of (read_checks form frame) ≤ length frame
+checks-near : (form : Form) (frame : List ℕ) → fault_position (read_checks form frame) ≤ length frame
 unfolding read_checks
 checks-near form frame =
     let seg = seg_of form in
@@ -111,35 +112,35 @@ checks-near form frame =
     let at = fault_of (found_in frame) form frame in
     let n = length_in (found_in frame) form frame in
     let most = most_of form in
-    let d = check_at (leb n most) PacketTooLong most passed in
+    let d = check_at (leb n most) PacketTooLong most (Ok tt) in
     let c = check_at (eqb at len) FormatError at d in
     let b = check_at (whole_segments seg len) Malformed len c in
     check-near (form_valid form) OutOfRange 0 len b (λ e. omega arith)
     (λ valid. check-near (whole_segments seg len) Malformed len len c (λ e. omega arith)
     (λ whole. check-near (eqb at len) FormatError at len d (λ e. found_inside form (found_in frame) frame (whole-some seg len (segment-some form) whole))
-    (λ none. check-near (leb n most) PacketTooLong most len passed
+    (λ none. check-near (leb n most) PacketTooLong most len (Ok tt)
     (λ e. omega (arith, leb-false n most e, length-inside form (found_in frame) frame whole (eqb-true at len none)))
     (λ e. omega arith))))
 
 -- ---- a frame in its turn
 
-all_near : (v : Verdict) (n : ℕ) → position_of (all_at 0 v) ≤ n
-all_near Done n = omega arith
-all_near (Refused why) n = omega arith
+all_near : (v : Verdict) (n : ℕ) → fault_position (all_at 0 v) ≤ n
+all_near (Ok tt) n = omega arith
+all_near (Err why) n = omega arith
 
-by_near : (c : Checked) (f : Found) (form : Form) (frame : List ℕ) (before : MaybeData) (last : Bool) → position_of c ≤ length frame
-    → position_of (turn_checks before last (read_by c f form frame)) ≤ length frame
-by_near passed (Known k) form frame before last h = all_near (packet_verdict before last (as_data (packet_of k (values_as (Known k) form frame)))) (length frame)
-by_near passed Route form frame before last h = omega arith
-by_near passed Unknown form frame before last h = omega arith
-by_near (refused_at why at) f form frame before last h = h
+by_near : (c : Checked) (f : Found) (form : Form) (frame : List ℕ) (before : Option DataFields) (last : Bool) → fault_position c ≤ length frame
+    → fault_position (turn_checks before last (read_by c f form frame)) ≤ length frame
+by_near (Ok tt) (Known k) form frame before last h = all_near (packet_verdict before last (as_data (packet_of k (values_as (Known k) form frame)))) (length frame)
+by_near (Ok tt) Route form frame before last h = omega arith
+by_near (Ok tt) Unknown form frame before last h = omega arith
+by_near (Err fault) f form frame before last h = h
 
-pub turn-position : (before : MaybeData) (last : Bool) (form : Form) (frame : List ℕ) → position_of (turn_checks before last (read_of form frame)) ≤ length frame
+pub turn-position : (before : Option DataFields) (last : Bool) (form : Form) (frame : List ℕ) → fault_position (turn_checks before last (read_of form frame)) ≤ length frame
 unfolding read_of
 turn-position before last form frame = by_near (read_checks form frame) (found_in frame) form frame before last (checks-near form frame)
 
-pub turn_near : (before : MaybeData) (last : Bool) (form : Form) (frame : List ℕ) (why : Refusal) (at : ℕ)
-    → turn_checks before last (read_of form frame) ≡ refused_at why at → at ≤ length frame
-turn_near before last form frame why at e =
-    let is : position_of (turn_checks before last (read_of form frame)) ≡ at = ap position_of e in
+pub turn_near : (before : Option DataFields) (last : Bool) (form : Form) (frame : List ℕ) (fault : Fault)
+    → turn_checks before last (read_of form frame) ≡ Err fault → fault.at ≤ length frame
+turn_near before last form frame fault e =
+    let is : fault_position (turn_checks before last (read_of form frame)) ≡ fault.at = ap fault_position e in
     omega (arith, turn-position before last form frame, is)

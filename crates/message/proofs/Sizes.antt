@@ -27,8 +27,8 @@ use Rattle.message.specs.CuttingParts.{room_for}
 -- ---- how many
 
 -- the user data of a full frame, of a valid form
-pub share-range : (form : Form) → form_valid form ≡ true → (7 ≤ share_of form) × (share_of form ≤ 157) × (share_of form + 3 ≡ most_of form)
-share-range form good = let m = most-range form good in (omega (arith, m), omega (arith, m), omega (arith, m))
+pub share_range : (form : Form) → form_valid form ≡ true → (7 ≤ share_of form) × (share_of form ≤ 157) × (share_of form + 3 ≡ most_of form)
+share_range form good = let m = most-range form good in (omega (arith, m), omega (arith, m), omega (arith, m))
 
 -- a message of more bytes than a share: without the first share, one full frame less
 more-frames : (share n : ℕ) → 1 ≤ share → share < n → full_frames share n ≡ suc (full_frames share (n - share))
@@ -40,16 +40,16 @@ more-frames share n some h =
     one ∙ ap (λ (x : ℕ). x / share + 1) same ∙ omega arith
 
 -- a message that fits one frame has no full frame before it
-pub one-frame : (share n : ℕ) → 1 ≤ share → n ≤ share → full_frames share n ≡ 0
+pub one_frame : (share n : ℕ) → 1 ≤ share → n ≤ share → full_frames share n ≡ 0
 unfolding full_frames
-one-frame share n some h = let lt : n - 1 < share = omega arith in div-eq_of_lt lt
+one_frame share n some h = let lt : n - 1 < share = omega arith in div-eq_of_lt lt
 
 -- before a full frame: more than a share is left, and the rest has one full frame less
 pub full-split : (share n k : ℕ) → 1 ≤ share → suc k ≡ full_frames share n → (share < n) × (k ≡ full_frames share (n - share))
 full-split share n k some e = go (leb n share) refl
   where
     go : (b : Bool) → leb n share ≡ b → (share < n) × (k ≡ full_frames share (n - share))
-    go true t = absurd (omega (arith, e, one-frame share n some (leb-true n share t)))
+    go true t = absurd (omega (arith, e, one_frame share n some (leb-true n share t)))
     go false t = let h : share < n = leb-false n share t in (h, omega (arith, e, more-frames share n some h))
 
 -- before the last frame: the rest fits it
@@ -61,9 +61,9 @@ full-none share n some e = go (leb n share) refl
     go false t = absurd (omega (arith, e, more-frames share n some (leb-false n share t)))
 
 -- the full frames' bytes are among the message's
-pub full-least : (share n : ℕ) → (full_frames share n ≤ n) × (full_frames share n * share ≤ n)
+pub full_least : (share n : ℕ) → (full_frames share n ≤ n) × (full_frames share n * share ≤ n)
 unfolding full_frames
-full-least share n =
+full_least share n =
     let a : (n - 1) / share ≤ n - 1 = div-le_self (n - 1) share in
     let b : (n - 1) / share * share ≤ n - 1 = div-mul-le_self (n - 1) share in
     (omega (arith, a), omega (arith, b))
@@ -77,21 +77,21 @@ frames-count form (suc k) s m = ap suc (frames-count form k (next_start s) (drop
 -- ---- how long
 
 -- all full frames are of one length
-pub room-product : (form : Form) (k n : ℕ)
+pub room_product : (form : Form) (k n : ℕ)
     → k * frame_length (seg_of form) (3 + share_of form) + frame_length (seg_of form) (3 + (n - k * share_of form)) ≡ room_for form k n
 unfolding room_for
-room-product form zero n =
+room_product form zero n =
     let w = frame_length (seg_of form) (3 + share_of form) in
     let none : 0 * w ≡ 0 = zero-mul w in
     let all : n - 0 * share_of form ≡ n = omega (arith, zero-mul (share_of form)) in
     ap₂ (λ (x y : ℕ). x + frame_length (seg_of form) (3 + y)) none all ∙ omega arith
-room-product form (suc k) n =
+room_product form (suc k) n =
     let c = share_of form in
     let w = frame_length (seg_of form) (3 + c) in
     let rest : n - suc k * c ≡ n - c - k * c = omega (arith, suc-mul k c) in
     let last = frame_length (seg_of form) (3 + (n - c - k * c)) in
     let sum : suc k * w + last ≡ w + (k * w + last) = omega (arith, suc-mul k w) in
-    ap (λ (x : ℕ). suc k * w + frame_length (seg_of form) (3 + x)) rest ∙ sum ∙ ap (λ (x : ℕ). w + x) (room-product form k (n - c))
+    ap (λ (x : ℕ). suc k * w + frame_length (seg_of form) (3 + x)) rest ∙ sum ∙ ap (λ (x : ℕ). w + x) (room_product form k (n - c))
 
 -- the sum of the frames' bytes follows from the message's length
 frames-room : (form : Form) (k : ℕ) (s : Start) (m : List ℕ) → 1 ≤ share_of form → k ≡ full_frames (share_of form) (length m)
@@ -152,12 +152,12 @@ next-in-range s r = record { link = mod-lt (s.sn.0 + 1) (omega arith); packet = 
 -- ---- a message's frames, by its length
 
 -- the sum of their bytes
-pub message-room : (form : Form) (s : Start) (m : List ℕ) → form_valid form ≡ true
+pub message_room : (form : Form) (s : Start) (m : List ℕ) → form_valid form ≡ true
     → length (bytes_in (frames_of form s m)) ≡ room_for form (full_frames (share_of form) (length m)) (length m)
 unfolding frames_of
-message-room form s m good = frames-room form (full_frames (share_of form) (length m)) s m (omega (arith, share-range form good)) refl
+message_room form s m good = frames-room form (full_frames (share_of form) (length m)) s m (omega (arith, share_range form good)) refl
 
 -- and they are one more than the full ones
-pub message-count : (form : Form) (s : Start) (m : List ℕ) → length (frames_of form s m) ≡ suc (full_frames (share_of form) (length m))
+pub message_count : (form : Form) (s : Start) (m : List ℕ) → length (frames_of form s m) ≡ suc (full_frames (share_of form) (length m))
 unfolding frames_of
-message-count form s m = frames-count form (full_frames (share_of form) (length m)) s m
+message_count form s m = frames-count form (full_frames (share_of form) (length m)) s m

@@ -2,15 +2,14 @@
 -- it goes on and ends.
 -- Assumes nothing.
 use mathlib.Core.Path.{◌≡◌, refl, sym, ap, ap₂, ◌∙◌, subst}
-use mathlib.Core.Bool.{Bool, true, false, cond}
+use mathlib.Core.Bool.{Bool, true, false}
 use mathlib.Core.List.{List, [], ◌∷◌, ◌++◌, append_assoc}
-use Prim.Native.Nat.{ℕ, zero, suc, ◌+◌, ◌-◌, ◌<◌, ◌≤◌}
+use Prim.Native.Nat.{ℕ, zero, suc, ◌+◌, ◌-◌, ◌<◌, ◌≤◌, min}
 use native.Mathlib.Omega.{arith}
 use lib.Dec.{ltb}
 use lib.ListN.{length, take, drop, set, length-drop}
 use lib.Seq.{drop-drop, take_all, length-take-le}
 use borrow.Author.Tests.{ltb-true, ltb-false}
-use Rattle.refusal.specs.declared.Verdict.TheVariants.{Done}
 use Rattle.lists.specs.Frames.{bytes_in, lengths_of}
 use Rattle.lists.specs.Lists.{over}
 use Rattle.frame_form.specs.declared.Form.{Form}
@@ -23,11 +22,11 @@ use Rattle.frame.specs.Packets.{kind_of}
 use Rattle.frame.specs.Writing.{fits, frame_of}
 use Rattle.frame.proofs.Frames.{frame-length}
 use Rattle.message.specs.declared.cutting.Start.{Start}
-use Rattle.message.specs.declared.cutting.Cut.TheVariants.{Frames}
-use Rattle.message.specs.Cutting.{share_of, full_frames, data_of, next_start, frames_from, frames_of, cut_by}
+use Rattle.message.specs.Cutting.{share_of, full_frames, data_of, next_start, frames_from, frames_of, cut_by, cut_into}
 use Rattle.message.specs.CuttingParts.{splice, Room, Ready}
-use Rattle.message.proofs.Sizes.{share-range, full-split, full-none, InRange, in-range, fits_all, next-in-range}
+use Rattle.message.proofs.Sizes.{share_range, full-split, full-none, InRange, in-range, fits_all, next-in-range}
 use Rattle.message.proofs.Written.{Written, none_written, room-left, one_written}
+use Rattle.std.specs.Prelude.{Ok}
 
 -- the frames fs are written; `left` full ones and the last come, from s on, for the message from
 -- index `from` on
@@ -72,7 +71,7 @@ ready form s more q n u p room i places e en good long numbers share inside plac
 
 module _ (form : Form) (s₀ : Start) (k₀ : ℕ) (m o₀ l₀ : List ℕ) (room : Room form s₀ m (length o₀) (length l₀)) where
   some : 1 ≤ share_of form
-  some = omega (arith, share-range form room.good)
+  some = omega (arith, share_range form room.good)
 
   -- a full frame comes: the next one, and those after it
   record Full (o l : List ℕ) (s : Start) (from p i : ℕ) (v : Cutting form s₀ k₀ m o₀ l₀ o l s from p i) : Type 0 where
@@ -152,8 +151,8 @@ module _ (form : Form) (s₀ : Start) (k₀ : ℕ) (m o₀ l₀ : List ℕ) (roo
       (full-none (share_of form) (length m - from) some (none ∙ v.count), ap (λ (x : ℕ). v.fs ++ frames_from form x s (drop from m)) none ∙ v.rest)
 
   -- the lent lists are as long as they were
-  pub lengths-kept : (o l : List ℕ) (s : Start) (from p i : ℕ) → Cutting form s₀ k₀ m o₀ l₀ o l s from p i → k₀ ≤ i → (length o ≡ length o₀) × (length l ≡ length l₀)
-  lengths-kept o l s from p i v h =
+  pub lengths_kept : (o l : List ℕ) (s : Start) (from p i : ℕ) → Cutting form s₀ k₀ m o₀ l₀ o l s from p i → k₀ ≤ i → (length o ≡ length o₀) × (length l ≡ length l₀)
+  lengths_kept o l s from p i v h =
       let r = room-left v.fs _ _ _ o₀ l₀ o l p i v.text (last o l s from p i v h).1 room.bytes room.frames in
       (r.2, r.3)
 
@@ -169,48 +168,55 @@ module _ (form : Form) (s₀ : Start) (k₀ : ℕ) (m o₀ l₀ : List ℕ) (roo
   -- it was written, and so all frames are
   ends : (o l o1 l1 u : List ℕ) (s : Start) (from p i p1 : ℕ) (q : Packet) → Cutting form s₀ k₀ m o₀ l₀ o l s from p i → k₀ ≤ i → u ≡ drop from m → q ≡ data_of s false
       → o1 ≡ splice p (frame_of form q u) o → l1 ≡ set l i (length (frame_of form q u)) → p1 ≡ p + length (frame_of form q u)
-      → (Frames (i + 1) p1 ≡ cut_by Done (frames_of form s₀ m)) × (o1 ≡ over (bytes_in (frames_of form s₀ m)) o₀) × (l1 ≡ over (lengths_of (frames_of form s₀ m)) l₀)
+      → (cut_into (i + 1) p1 ≡ cut_by (Ok tt) (frames_of form s₀ m)) × (o1 ≡ over (bytes_in (frames_of form s₀ m)) o₀) × (l1 ≡ over (lengths_of (frames_of form s₀ m)) l₀)
   ends o l o1 l1 u s from p i p1 q v h eu eq eo el ep =
       let e = last o l s from p i v h in
       let w = subst (λ (x : List (List ℕ)). Written x o₀ l₀ o1 l1 p1 (i + 1)) e.1
       (one_written v.fs _ _ _ o₀ l₀ o l o1 l1 _ p i p1 v.text e.1 room.frames (ap₂ (frame_of form) eq eu) eo el ep) in
-      (ap₂ Frames (sym w.lens-at) (sym w.out_at), w.out, w.lens)
+      (ap₂ cut_into (sym w.lens-at) (sym w.out_at), w.out, w.lens)
 
-  -- ---- a frame, full or the last: `more` is whether it is a full one
+  -- ---- a frame, full or the last: `more` is whether it is a full one; `to` is where its part of
+  -- the message ends
 
-  -- the part of the message that the last frame carries
-  part-rest : (from to : ℕ) → to ≡ length m → take (to - from) (drop from m) ≡ drop from m
-  part-rest from to e = take_all (to - from) (drop from m) (omega (arith, e, length-drop from m))
+  -- after a share, if it is a full one
+  to-full : (o l : List ℕ) (s : Start) (from p i share to : ℕ) → share ≡ share_of form → Cutting form s₀ k₀ m o₀ l₀ o l s from p i → i < k₀
+      → to ≡ min (from + share) (length m) → to ≡ from + share
+  to-full o l s from p i share to es v h et = omega (arith, et, turn_inside o l s from p i share es v h)
+
+  -- and with the message, if it is the last
+  part-rest : (o l : List ℕ) (s : Start) (from p i share to : ℕ) → share ≡ share_of form → Cutting form s₀ k₀ m o₀ l₀ o l s from p i → k₀ ≤ i
+      → to ≡ min (from + share) (length m) → take (to - from) (drop from m) ≡ drop from m
+  part-rest o l s from p i share to es v h et =
+      take_all (to - from) (drop from m) (omega (arith, et, es, v.inside, (last o l s from p i v h).0, length-drop from m))
 
   -- what writing it requires
   pub asked : (o l : List ℕ) (s : Start) (from p i share to : ℕ) (q : Packet) (more : Bool) → share ≡ share_of form → Cutting form s₀ k₀ m o₀ l₀ o l s from p i
-      → ltb i k₀ ≡ more → to ≡ cond more (from + share) (length m) → q ≡ data_of s more
-      → (from ≤ to) × (to ≤ length m) × Ready form q (length (take (to - from) (drop from m))) p (length o) i (length l)
+      → ltb i k₀ ≡ more → to ≡ min (from + share) (length m) → q ≡ data_of s more → Ready form q (length (take (to - from) (drop from m))) p (length o) i (length l)
   asked o l s from p i share to q true es v em et eq =
       let h = ltb-true i k₀ em in
-      let inside = turn_inside o l s from p i share es v h in (
-        omega (arith, et),
-        omega (arith, et, inside),
-        subst (λ (x : ℕ). Ready form q (length (take (x - from) (drop from m))) p (length o) i (length l)) (sym et) (turn-ready o l s from p i share q es v h eq),
-      )
+      subst (λ (x : ℕ). Ready form q (length (take (x - from) (drop from m))) p (length o) i (length l)) (sym (to-full o l s from p i share to es v h et)) (turn-ready o l s from p i share q es v h eq)
   asked o l s from p i share to q false es v em et eq =
-      (omega (arith, et, v.inside), omega (arith, et), last-ready o l _ s from p i q v (ltb-false i k₀ em) (part-rest from to et) eq)
+      let h = ltb-false i k₀ em in
+      last-ready o l _ s from p i q v h (part-rest o l s from p i share to es v h et) eq
 
   -- it was written: the loop goes on
   pub goes_on : (o l o1 l1 u : List ℕ) (s s1 : Start) (from p i share to p1 : ℕ) (q : Packet) (more : Bool) → share ≡ share_of form
-      → Cutting form s₀ k₀ m o₀ l₀ o l s from p i → ltb i k₀ ≡ more → more ≡ true → to ≡ cond more (from + share) (length m) → q ≡ data_of s more
+      → Cutting form s₀ k₀ m o₀ l₀ o l s from p i → ltb i k₀ ≡ more → more ≡ true → to ≡ min (from + share) (length m) → q ≡ data_of s more
       → u ≡ take (to - from) (drop from m) → s1 ≡ next_start s → o1 ≡ splice p (frame_of form q u) o → l1 ≡ set l i (length (frame_of form q u))
       → p1 ≡ p + length (frame_of form q u) → Cutting form s₀ k₀ m o₀ l₀ o1 l1 s1 to p1 (i + 1)
   goes_on o l o1 l1 u s s1 from p i share to p1 q true es v em t et eq eu en eo el ep =
-      subst (λ (x : ℕ). Cutting form s₀ k₀ m o₀ l₀ o1 l1 s1 x p1 (i + 1)) (sym et)
-      (turns o l o1 l1 u s s1 from p i share p1 q es v (ltb-true i k₀ em) (eu ∙ ap (λ (x : ℕ). take (x - from) (drop from m)) et) eq en eo el ep)
+      let h = ltb-true i k₀ em in
+      let is = to-full o l s from p i share to es v h et in
+      subst (λ (x : ℕ). Cutting form s₀ k₀ m o₀ l₀ o1 l1 s1 x p1 (i + 1)) (sym is)
+      (turns o l o1 l1 u s s1 from p i share p1 q es v h (eu ∙ ap (λ (x : ℕ). take (x - from) (drop from m)) is) eq en eo el ep)
   goes_on o l o1 l1 u s s1 from p i share to p1 q false es v em t et eq eu en eo el ep = let z : ◌≡◌ {A = ℕ} 0 1 = cc in absurd (omega arith)
 
   -- or ends: all frames are written
-  pub finished : (o l o1 l1 u : List ℕ) (s : Start) (from p i share to p1 : ℕ) (q : Packet) (more : Bool) → Cutting form s₀ k₀ m o₀ l₀ o l s from p i
-      → ltb i k₀ ≡ more → more ≡ false → to ≡ cond more (from + share) (length m) → q ≡ data_of s more → u ≡ take (to - from) (drop from m)
-      → o1 ≡ splice p (frame_of form q u) o → l1 ≡ set l i (length (frame_of form q u)) → p1 ≡ p + length (frame_of form q u)
-      → (Frames (i + 1) p1 ≡ cut_by Done (frames_of form s₀ m)) × (o1 ≡ over (bytes_in (frames_of form s₀ m)) o₀) × (l1 ≡ over (lengths_of (frames_of form s₀ m)) l₀)
-  finished o l o1 l1 u s from p i share to p1 q true v em t et eq eu eo el ep = let z : ◌≡◌ {A = ℕ} 0 1 = cc in absurd (omega arith)
-  finished o l o1 l1 u s from p i share to p1 q false v em t et eq eu eo el ep =
-      ends o l o1 l1 u s from p i p1 q v (ltb-false i k₀ em) (eu ∙ part-rest from to et) eq eo el ep
+  pub finished : (o l o1 l1 u : List ℕ) (s : Start) (from p i share to p1 : ℕ) (q : Packet) (more : Bool) → share ≡ share_of form
+      → Cutting form s₀ k₀ m o₀ l₀ o l s from p i → ltb i k₀ ≡ more → more ≡ false → to ≡ min (from + share) (length m) → q ≡ data_of s more
+      → u ≡ take (to - from) (drop from m) → o1 ≡ splice p (frame_of form q u) o → l1 ≡ set l i (length (frame_of form q u)) → p1 ≡ p + length (frame_of form q u)
+      → (cut_into (i + 1) p1 ≡ cut_by (Ok tt) (frames_of form s₀ m)) × (o1 ≡ over (bytes_in (frames_of form s₀ m)) o₀) × (l1 ≡ over (lengths_of (frames_of form s₀ m)) l₀)
+  finished o l o1 l1 u s from p i share to p1 q true es v em t et eq eu eo el ep = let z : ◌≡◌ {A = ℕ} 0 1 = cc in absurd (omega arith)
+  finished o l o1 l1 u s from p i share to p1 q false es v em t et eq eu eo el ep =
+      let h = ltb-false i k₀ em in
+      ends o l o1 l1 u s from p i p1 q v h (eu ∙ part-rest o l s from p i share to es v h et) eq eo el ep

@@ -9,8 +9,7 @@ use native.Mathlib.Nat.{div-one}
 use native.Mathlib.Omega.{arith}
 use lib.ListN.{length, take, drop, get_or, length-drop}
 use lib.Seq.{length-take-le}
-use Rattle.refusal.specs.declared.Verdict.TheVariants.{Done}
-use Rattle.refusal.specs.Positions.{Checked, passed, refused_at, from}
+use Rattle.refusal.specs.Positions.{Checked, from}
 use Rattle.refusal.proofs.Checks.{both_true, both-passed, from-passed, all-passed}
 use Rattle.lists.specs.Frames.{is_none}
 use Rattle.frame_fields.specs.Rows.{number_in}
@@ -26,30 +25,29 @@ use Rattle.frame_kinds.specs.Kinds.{layout_of}
 use Rattle.frame_kinds.proofs.Table.{sound}
 use Rattle.frame_reader.specs.Faults.{packet_length, first_fault}
 use Rattle.frame_reader.specs.Reading.{found_in, fault_of, values_as, read_checks}
-use Rattle.frame.specs.declared.MaybeData.{MaybeData}
-use Rattle.frame.specs.declared.MaybeData.TheVariants.{Nothing, Data as SomeData}
-use Rattle.frame.specs.declared.Read.{Read}
-use Rattle.frame.specs.declared.Read.TheVariants.{Packet as PacketRead, Route as RouteRead, Refused as NotRead}
-use Rattle.frame.specs.Packets.{packet_of, as_data}
+use Rattle.frame.specs.Packets.{packet_of, as_data, Read}
 use Rattle.frame.specs.Reading.{read_by, read_of, data_in}
 use Rattle.frame.proofs.KindLaws.{data-kind}
-use Rattle.frame.proofs.Contents.{inside}
+use Rattle.frame.proofs.OneLayout.{inside}
 use Rattle.frame.proofs.Frames.{checks-passed}
 use Rattle.message.specs.Joining.{packet_verdict, turn_checks, user_of, frames_checks}
 use Rattle.message.specs.JoiningParts.{some_data, is_data, all_data}
+use Rattle.frame.specs.declared.Contents.TheVariants.{Packet as PacketIn, Route as RouteIn}
+use Rattle.std.specs.Prelude.{Ok, Err, Option, Some, None}
+use Rattle.frame.specs.declared.Data.{Data as DataFields}
 
 -- ---- frames that passed the checks are DATA
 
-some-passed : (before : MaybeData) (last : Bool) (x : MaybeData) → packet_verdict before last x ≡ Done → some_data x ≡ true
-some-passed before last Nothing e = let z : ◌≡◌ {A = ℕ} 0 1 = cc in absurd (omega arith)
-some-passed before last (SomeData d) e = refl
+some-passed : (before : Option DataFields) (last : Bool) (x : Option DataFields) → packet_verdict before last x ≡ Ok tt → some_data x ≡ true
+some-passed before last None e = let z : ◌≡◌ {A = ℕ} 0 1 = cc in absurd (omega arith)
+some-passed before last (Some d) e = refl
 
-turn-data : (before : MaybeData) (last : Bool) (r : Read) → turn_checks before last r ≡ passed → is_data r ≡ true
-turn-data before last (PacketRead p place) e = some-passed before last (as_data p) (all-passed 0 (packet_verdict before last (as_data p)) e)
-turn-data before last (RouteRead r) e = let z : ◌≡◌ {A = ℕ} 0 1 = cc in absurd (omega arith)
-turn-data before last (NotRead why at) e = let z : ◌≡◌ {A = ℕ} 0 1 = cc in absurd (omega arith)
+turn-data : (before : Option DataFields) (last : Bool) (r : Read) → turn_checks before last r ≡ Ok tt → is_data r ≡ true
+turn-data before last (Ok (PacketIn p place)) e = some-passed before last (as_data p) (all-passed 0 (packet_verdict before last (as_data p)) e)
+turn-data before last (Ok (RouteIn r)) e = let z : ◌≡◌ {A = ℕ} 0 1 = cc in absurd (omega arith)
+turn-data before last (Err fault) e = let z : ◌≡◌ {A = ℕ} 0 1 = cc in absurd (omega arith)
 
-pub all-data : (form : Form) (before : MaybeData) (start : ℕ) (fs : List (List ℕ)) → frames_checks form before start fs ≡ passed → all_data form fs ≡ true
+pub all-data : (form : Form) (before : Option DataFields) (start : ℕ) (fs : List (List ℕ)) → frames_checks form before start fs ≡ Ok tt → all_data form fs ≡ true
 unfolding frames_checks all_data
 all-data form before start [] e = refl
 all-data form before start (f ∷ fs) e =
@@ -87,8 +85,8 @@ pub record DataFrame (form : Form) (frame : List ℕ) (r : Read) : Type 0 where
   pub user : user_of r frame ≡ take (length frame - seg_of form + get_or frame 2 0 % 16 - 3) (drop 3 frame)
 
 -- a frame of kind DATA passed the checks, and its user data comes after the header
-data-found : (form : Form) (frame : List ℕ) → read_checks form frame ≡ passed → found_in frame ≡ Known DataKind
-    → DataFrame form frame (read_by passed (Known DataKind) form frame)
+data-found : (form : Form) (frame : List ℕ) → read_checks form frame ≡ Ok tt → found_in frame ≡ Known DataKind
+    → DataFrame form frame (read_by (Ok tt) (Known DataKind) form frame)
 data-found form frame ec ef =
     let seg = seg_of form in
     let q = checks-passed form frame ec in
@@ -105,26 +103,26 @@ data-found form frame ec ef =
     }
 
 -- a frame that reads as DATA was taken as that kind
-some-kind : (k : Kind) (vs : List ℕ) (x : MaybeData) → as_data (packet_of k vs) ≡ x → some_data x ≡ true → k ≡ DataKind
-some-kind k vs Nothing e some = let z : ◌≡◌ {A = ℕ} 0 1 = cc in absurd (omega arith)
-some-kind k vs (SomeData d) e some = data-kind k vs d e
+some-kind : (k : Kind) (vs : List ℕ) (x : Option DataFields) → as_data (packet_of k vs) ≡ x → some_data x ≡ true → k ≡ DataKind
+some-kind k vs None e some = let z : ◌≡◌ {A = ℕ} 0 1 = cc in absurd (omega arith)
+some-kind k vs (Some d) e some = data-kind k vs d e
 
 by-found : (form : Form) (frame : List ℕ) (c : Checked) (f : Found) → read_checks form frame ≡ c → found_in frame ≡ f
     → is_data (read_by c f form frame) ≡ true → DataFrame form frame (read_by c f form frame)
-by-found form frame (refused_at why at) f ec ef e = let z : ◌≡◌ {A = ℕ} 0 1 = cc in absurd (omega arith)
-by-found form frame passed Route ec ef e = let z : ◌≡◌ {A = ℕ} 0 1 = cc in absurd (omega arith)
-by-found form frame passed Unknown ec ef e = let z : ◌≡◌ {A = ℕ} 0 1 = cc in absurd (omega arith)
-by-found form frame passed (Known k) ec ef e =
+by-found form frame (Err fault) f ec ef e = let z : ◌≡◌ {A = ℕ} 0 1 = cc in absurd (omega arith)
+by-found form frame (Ok tt) Route ec ef e = let z : ◌≡◌ {A = ℕ} 0 1 = cc in absurd (omega arith)
+by-found form frame (Ok tt) Unknown ec ef e = let z : ◌≡◌ {A = ℕ} 0 1 = cc in absurd (omega arith)
+by-found form frame (Ok tt) (Known k) ec ef e =
     let is = some-kind k (values_as (Known k) form frame) _ refl e in
-    subst (λ (j : Kind). found_in frame ≡ Known j → DataFrame form frame (read_by passed (Known j) form frame)) (sym is) (data-found form frame ec) ef
+    subst (λ (j : Kind). found_in frame ≡ Known j → DataFrame form frame (read_by (Ok tt) (Known j) form frame)) (sym is) (data-found form frame ec) ef
 
-pub data-frame : (form : Form) (frame : List ℕ) → is_data (read_of form frame) ≡ true → DataFrame form frame (read_of form frame)
+pub data_frame : (form : Form) (frame : List ℕ) → is_data (read_of form frame) ≡ true → DataFrame form frame (read_of form frame)
 unfolding read_of
-data-frame form frame e = by-found form frame (read_checks form frame) (found_in frame) refl refl e
+data_frame form frame e = by-found form frame (read_checks form frame) (found_in frame) refl refl e
 
 -- how long it is
-pub user-long : (form : Form) (frame : List ℕ) (r : Read) → DataFrame form frame r → length (user_of r frame) ≡ length frame - seg_of form + get_or frame 2 0 % 16 - 3
-user-long form frame r d =
+pub user_long : (form : Form) (frame : List ℕ) (r : Read) → DataFrame form frame r → length (user_of r frame) ≡ length frame - seg_of form + get_or frame 2 0 % 16 - 3
+user_long form frame r d =
     let n = length frame - seg_of form + get_or frame 2 0 % 16 in
     let rest : n - 3 ≤ length (drop 3 frame) = omega (arith, length-drop 3 frame, d.inside) in
     ap length d.user ∙ length-take-le (n - 3) (drop 3 frame) rest

@@ -1,11 +1,9 @@
 -- Cutting a message into DATA frames: which frames there are, the answer, and the two lent lists
 -- afterwards. Document 01, "Cutting and joining", and document 02, Q-14.
 -- Assumes nothing.
-use Rattle.std.specs.Prelude.{Bool, true, false, List, [], ◌∷◌, ℕ, zero, suc, ◌-◌, ◌/◌, leb, length, take, drop}
+use Rattle.std.specs.Prelude.{Bool, true, false, List, [], ◌∷◌, ℕ, zero, suc, ◌-◌, ◌/◌, leb, length, take, drop, Result, Ok, Err}
 use Rattle.refusal.specs.declared.Refusal.TheVariants.{OutOfRange, MessageTooLong, OutputTooShort, ShortForm}
-use Rattle.refusal.specs.declared.Verdict.{Verdict}
-use Rattle.refusal.specs.declared.Verdict.TheVariants.{Done, Refused}
-use Rattle.refusal.specs.Numbers.{number_of, check}
+use Rattle.refusal.specs.Numbers.{check, Verdict}
 use Rattle.lists.specs.Frames.{bytes_in, lengths_of}
 use Rattle.sequence.specs.Modular.{next}
 use Rattle.sequence.specs.Numbers.{link, packet}
@@ -17,21 +15,21 @@ use Rattle.frame.specs.declared.Packet.TheVariants.{Data}
 use Rattle.frame.specs.Writing.{fits, frame_of}
 use Rattle.message.specs.declared.cutting.Start.{Start}
 use Rattle.message.specs.declared.cutting.Cut.{Cut}
-use Rattle.message.specs.declared.cutting.Cut.TheVariants.{Frames, Refused as NotCut}
+use Rattle.refusal.specs.declared.Refusal.{Refusal}
 
--- What an answer holds: the refusal number, 0 if the message was cut; the number of frames; the sum
--- of their bytes. "A refusal returns its number, counts of 0".
-abbrev pub cut_number : Cut → ℕ
-cut_number (Frames count bytes) = 0
-cut_number (NotCut why) = number_of why
+-- an answer that is so many frames, of so many bytes in all
+abbrev pub cut_into : ℕ → ℕ → Result Cut Refusal
+cut_into count bytes = Ok (record { frames = count; bytes = bytes })
 
-abbrev pub cut_count : Cut → ℕ
-cut_count (Frames count bytes) = count
-cut_count (NotCut why) = 0
+-- What an answer holds: the number of frames; the sum of their bytes. "A refusal returns its number,
+-- counts of 0".
+abbrev pub cut_count : Result Cut Refusal → ℕ
+cut_count (Ok cut) = cut.frames
+cut_count (Err why) = 0
 
-abbrev pub cut_bytes : Cut → ℕ
-cut_bytes (Frames count bytes) = bytes
-cut_bytes (NotCut why) = 0
+abbrev pub cut_bytes : Result Cut Refusal → ℕ
+cut_bytes (Ok cut) = cut.bytes
+cut_bytes (Err why) = 0
 
 -- the bytes of user data in a full frame: "each but the last carries the form's largest size less 3
 -- bytes of user data"
@@ -76,15 +74,15 @@ cut_verdict form s message room places =
     (check (leb (length message) 4096) MessageTooLong
     (check (leb (length (bytes_in (frames_of form s message))) room) OutputTooShort
     (check (leb (length (frames_of form s message)) places) OutputTooShort
-    Done)))))
+    (Ok tt))))))
 
 -- the answer: the number of frames and the sum of their bytes, or the refusal
-abbrev pub cut_by : Verdict → List (List ℕ) → Cut
-cut_by Done frames = Frames (length frames) (length (bytes_in frames))
-cut_by (Refused why) frames = NotCut why
+abbrev pub cut_by : Verdict → List (List ℕ) → Result Cut Refusal
+cut_by (Ok tt) frames = cut_into (length frames) (length (bytes_in frames))
+cut_by (Err why) frames = Err why
 
 -- what `cut_message` answers, for a lent output of `room` bytes and a lent list of `places` places
-unfoldable pub cut_of : Form → Start → List ℕ → ℕ → ℕ → Cut
+unfoldable pub cut_of : Form → Start → List ℕ → ℕ → ℕ → Result Cut Refusal
 cut_of form s message room places = cut_by (cut_verdict form s message room places) (frames_of form s message)
 
 -- The two lent lists afterwards: the bytes of the frames at the front of the output, and their

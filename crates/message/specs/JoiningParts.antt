@@ -1,39 +1,39 @@
 -- What the private functions of `joining` promise and require. No public call cites these
 -- definitions.
 -- Assumes nothing.
-use Rattle.std.specs.Prelude.{◌≡◌, Bool, true, false, ◌&&◌, List, [], ◌∷◌, ℕ, ◌≤◌, length}
-use Rattle.refusal.specs.Positions.{Checked, passed, refused_at, all_at}
+use Rattle.std.specs.Prelude.{◌≡◌, Bool, true, false, ◌&&◌, List, [], ◌∷◌, ℕ, ◌≤◌, length, Result, Ok, Err, Option, Some, None}
+use Rattle.refusal.specs.Positions.{Checked, all_at}
 use Rattle.lists.specs.Frames.{parts_of, sum}
 use Rattle.frame_form.specs.declared.Form.{Form}
-use Rattle.frame.specs.declared.MaybeData.{MaybeData}
-use Rattle.frame.specs.declared.MaybeData.TheVariants.{Nothing, Data as SomeData}
-use Rattle.frame.specs.declared.Read.{Read}
 use Rattle.frame.specs.Reading.{read_of, data_in}
-use Rattle.message.specs.declared.joining.Turn.{Turn}
-use Rattle.message.specs.declared.joining.Turn.TheVariants.{GoesOn, Refused as NotGoing}
-use Rattle.message.specs.declared.joining.Joined.{Joined}
-use Rattle.message.specs.declared.joining.Joined.TheVariants.{Bytes, Refused as NotJoined}
 use Rattle.message.specs.Joining.{turn_checks, user_of, message_in, size_verdict, join_by}
+use Rattle.frame.specs.Packets.{Read}
+use Rattle.refusal.specs.declared.Fault.{Fault}
+use Rattle.frame.specs.declared.Data.{Data as DataFields}
+
+-- what the loop keeps of a frame that passed its checks, or the refusal
+abbrev pub Turn : Type 0
+Turn = Result (Option DataFields × ℕ) Fault
 
 -- the checks of one frame, with what the loop keeps of it: its DATA packet, and the length of its
 -- user data
-abbrev pub turn_by : Checked → MaybeData → ℕ → Turn
-turn_by passed next user = GoesOn next user
-turn_by (refused_at why at) next user = NotGoing why at
+abbrev pub turn_by : Checked → Option DataFields → ℕ → Turn
+turn_by (Ok tt) next user = Ok (next, user)
+turn_by (Err fault) next user = Err fault
 
 -- the same, by what reading the frame answered
-abbrev pub turn_of : MaybeData → Bool → Read → List ℕ → Turn
+abbrev pub turn_of : Option DataFields → Bool → Read → List ℕ → Turn
 turn_of before last r frame = turn_by (turn_checks before last r) (data_in r) (length (user_of r frame))
 
 -- "then 4, then 5", after the checks of all frames, `all` bytes
-abbrev pub sized : Joined → ℕ → ℕ → Joined
-sized (Bytes n) room all = join_by (all_at all (size_verdict n room)) n
-sized (NotJoined why at) room all = NotJoined why at
+abbrev pub sized : Result ℕ Fault → ℕ → ℕ → Result ℕ Fault
+sized (Ok n) room all = join_by (all_at all (size_verdict n room)) n
+sized (Err fault) room all = Err fault
 
 -- whether a frame reads and is DATA
-abbrev pub some_data : MaybeData → Bool
-some_data Nothing = false
-some_data (SomeData d) = true
+abbrev pub some_data : Option DataFields → Bool
+some_data None = false
+some_data (Some d) = true
 
 abbrev pub is_data : Read → Bool
 is_data r = some_data (data_in r)

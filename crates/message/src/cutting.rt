@@ -1,22 +1,22 @@
 // Cuts a message into DATA frames (document 01, "Cutting and joining").
-ghost use Rattle.std.specs.Prelude.{◌≡◌, true, cond, ◌+◌, ◌*◌, ◌≤◌, length, set};
-ghost use Rattle.refusal.specs.Numbers.{verdict_number, value_by};
+ghost use Rattle.std.specs.Prelude.{◌≡◌, true, ◌+◌, ◌*◌, ◌≤◌, length, set};
+ghost use Rattle.refusal.specs.Numbers.{value_by, refusal_number};
 ghost use Rattle.lists.specs.Frames.{bytes_in, lengths_of};
 ghost use Rattle.lists.specs.Lists.{over};
 ghost use Rattle.frame_form.specs.Forms.{long_segment, form_valid, is_long};
 ghost use Rattle.frame_form.specs.Segments.{frame_length};
 ghost use Rattle.frame.specs.Writing.{frame_of};
-ghost use Rattle.message.specs.Cutting.{cut_number, cut_count, cut_bytes, share_of, full_frames, data_of, next_start, frames_of, cut_verdict, cut_by, cut_of, cut_output, cut_lengths};
+ghost use Rattle.message.specs.Cutting.{cut_count, cut_bytes, share_of, full_frames, data_of, next_start, frames_of, cut_verdict, cut_by, cut_of, cut_output, cut_lengths};
 ghost use Rattle.message.specs.CuttingParts.{TellsFit, splice, room_for, Room, Ready};
 
 use frame::{Data, Packet};
 use frame_form::Form;
-use refusal::{Refusal, Verdict};
-use sequence::{LinkNumber, PacketNumber};
+use refusal::Refusal;
+use sequence::{Counter, LinkNumber, PacketNumber};
 
 // The numbers in the header of a message's first frame. SN and PS count up from here; PR and CH are
 // the same on all frames.
-#[derive(Clone, Copy)]
+#[derive(Clone, Copy, Debug, PartialEq, Eq)]
 pub struct Start {
     pub sn: LinkNumber,
     pub ps: PacketNumber,
@@ -25,47 +25,33 @@ pub struct Start {
     pub ch: u8,
 }
 
-// What cutting answers: the number of frames and the sum of their bytes, or the refusal.
-#[derive(Clone, Copy)]
-pub enum Cut {
-    Frames(usize, usize),
-    Refused(Refusal),
-}
-
-impl Cut {
-    // The refusal number of document 01; 0 if the message was cut.
-    pub fn number(self) -> u8
-        ensures { result ≡ cut_number self }
-    {
-        match self {
-            Cut::Frames(_count, _bytes) => 0,
-            Cut::Refused(why) => why.number(),
-        }
-    }
+// What cutting answers: the number of frames and the sum of their bytes.
+#[derive(Clone, Copy, Debug, PartialEq, Eq)]
+pub struct Cut {
+    pub frames: usize,
+    pub bytes: usize,
 }
 
 // ---- one frame's numbers, and the next one's
 
 impl Start {
     // Whether SN, PS, PR and CH each fit their field.
+    #[tactic(auto, unfolding(frame_writer::specs::Writing::values_fit))]
     fn fits(self) -> bool
         ensures { TellsFit self result }
     {
-        (self.sn.0 < 64) & (self.ps.0 < 16) & (self.pr.0 < 16) & (self.ch < 16)
+        self.sn.in_field() & self.ps.in_field() & self.pr.in_field() & (self.ch < 16)
     }
 
     // The DATA packet with these numbers; M is `more`, which says that more of the message follows.
     fn packet(self, more: bool) -> Data
         ensures { Packet.Data result ≡ data_of self more }
     {
-        let sn = self.sn;
-        let ps = self.ps;
-        let pr = self.pr;
         Data {
             m: more,
-            sn: sn,
-            ps: ps,
-            pr: pr,
+            sn: self.sn,
+            ps: self.ps,
+            pr: self.pr,
             ch: self.ch,
         }
     }
@@ -74,14 +60,10 @@ impl Start {
     fn next(self) -> Start
         ensures { result ≡ next_start self }
     {
-        let sn = self.sn;
-        let ps = self.ps;
-        let pr = self.pr;
         Start {
-            sn: sn.next(),
-            ps: ps.next(),
-            pr: pr,
-            ch: self.ch,
+            sn: self.sn.next(),
+            ps: self.ps.next(),
+            ..self
         }
     }
 }
@@ -100,20 +82,19 @@ fn share_of(form: Form) -> usize
 
 // The number of frames before the last, for a message of `n` bytes and full frames that carry
 // `share` bytes.
+#[tactic(auto, using(crate::proofs::Sizes::one_frame, crate::proofs::Sizes::full_least), unfolding(crate::specs::Cutting::full_frames))]
 fn full_frames(share: usize, n: usize) -> usize
     requires { 1 ≤ share }
     ensures value { result ≡ full_frames share n }
     ensures few { (result ≤ n) × (result * share ≤ n) }
 {
-    if n == 0 {
-        return 0;
-    }
-    (n - 1) / share
+    n.saturating_sub(1) / share
 }
 
 // The length of a DATA frame with `n` bytes of user data, in a long form: header and user data,
 // rounded up to whole segments. `frame_writer` divides the same sum by 10, and a compiler makes one
 // division of both.
+#[tactic(auto, unfolding(frame_form::specs::Segments::padding))]
 fn frame_length(n: usize) -> usize
     requires { n ≤ 4096 }
     ensures value { result ≡ frame_length long_segment (3 + n) }
@@ -124,6 +105,7 @@ fn frame_length(n: usize) -> usize
 }
 
 // The sum of the lengths of all frames of a message of `n` bytes, in a long form.
+#[tactic(auto, using(crate::proofs::Sizes::room_product))]
 fn needed(form: Form, n: usize) -> usize
     requires { (form_valid form ≡ true) × (is_long form ≡ true) × (n ≤ 4096) }
     ensures { result ≡ room_for form (full_frames (share_of form) n) n }
@@ -136,33 +118,37 @@ fn needed(form: Form, n: usize) -> usize
 
 // Whether the message may be cut, with `room` bytes for the frames and `places` places for their
 // lengths; checked in the order 1, 23, 4, 5.
-fn check_cut(form: Form, start: Start, message: &[u8], room: usize, places: usize) -> Verdict
+#[tactic(auto, unfolding(crate::specs::Cutting::cut_verdict), using(crate::proofs::Sizes::message_room, crate::proofs::Sizes::message_count))]
+fn check_cut(
+    form: Form,
+    start: Start,
+    message: &[u8],
+    room: usize,
+    places: usize,
+) -> Result<(), Refusal>
     ensures { result ≡ cut_verdict form start message.now room places }
 {
     let n = message.len();
-    if form.is_valid() && start.fits() {
-        if form.is_long() {
-            if n <= 4096 {
-                if needed(form, n) <= room && full_frames(share_of(form), n) < places {
-                    Verdict::Done
-                } else {
-                    Verdict::Refused(Refusal::OutputTooShort)
-                }
-            } else {
-                Verdict::Refused(Refusal::MessageTooLong)
-            }
-        } else {
-            Verdict::Refused(Refusal::ShortForm)
-        }
-    } else {
-        Verdict::Refused(Refusal::OutOfRange)
+    if !(form.is_valid() && start.fits()) {
+        return Err(Refusal::OutOfRange);
     }
+    if !form.is_long() {
+        return Err(Refusal::ShortForm);
+    }
+    if 4096 < n {
+        return Err(Refusal::MessageTooLong);
+    }
+    if room < needed(form, n) || places <= full_frames(share_of(form), n) {
+        return Err(Refusal::OutputTooShort);
+    }
+    Ok(())
 }
 
 // ---- writing
 
 // Writes one frame into its part of `out`, from index `at`, and its length to `lengths[i]`; returns
 // the index where the frame ends.
+#[tactic(auto, using(crate::proofs::Sizes::share_range))]
 fn put_one(
     form: Form,
     packet: Data,
@@ -179,22 +165,15 @@ fn put_one(
 {
     let len = frame_length(user.len());
     let end = at + len;
-    frame::write_data(form, packet, user, &mut out[at..end]);
+    // it refuses nothing: every check has passed, and the part has the frame's length
+    let _ = frame::write_data(form, packet, user, &mut out[at..end]);
     lengths[i] = len;
     end
 }
 
-// Where the user data of a frame ends in a message of `n` bytes, if it begins at index `from`:
-// after a full share, or at the end of the message if no more frames follow.
-fn part_end(more: bool, from: usize, share: usize, n: usize) -> usize
-    requires { (from ≤ 4096) × (share ≤ 157) }
-    ensures { result ≡ cond more (from + share) n }
-{
-    if more { from + share } else { n }
-}
-
 // Writes all frames of a message that passed the checks. The last frame is written by the same call
 // as those before it: with one call site a compiler inlines it into the loop.
+#[tactic(auto, using(crate::proofs::Steps::starts, crate::proofs::Steps::lengths_kept))]
 fn put_frames(
     form: Form,
     start: Start,
@@ -203,7 +182,7 @@ fn put_frames(
     lengths: &mut [usize],
 ) -> Cut
     requires { Room form start message.now (length out.old) (length lengths.old) }
-    ensures value { result ≡ cut_by Verdict.Done (frames_of form start message.now) }
+    ensures value { Ok result ≡ cut_by (Ok tt) (frames_of form start message.now) }
     ensures written { out.new ≡ over (bytes_in (frames_of form start message.now)) out.old }
     ensures listed { lengths.new ≡ over (lengths_of (frames_of form start message.now)) lengths.old }
 {
@@ -215,7 +194,7 @@ fn put_frames(
     let mut i = 0;
     loop {
         let more = i < full;
-        let to = part_end(more, from, share, message.len());
+        let to = (from + share).min(message.len());
         let end = put_one(
             form,
             next.packet(more),
@@ -231,7 +210,10 @@ fn put_frames(
             at = end;
             i = i + 1;
         } else {
-            return Cut::Frames(i + 1, end);
+            return Cut {
+                frames: i + 1,
+                bytes: end,
+            };
         }
     }
 }
@@ -239,23 +221,21 @@ fn put_frames(
 // Cuts a message into DATA frames. Each frame is written straight into its part of `out`, and its
 // length to its place in `lengths`; places past the result keep what they held. A refusal changes
 // neither list.
+#[tactic(auto, unfolding(crate::specs::Cutting::cut_of, crate::specs::Cutting::cut_output, crate::specs::Cutting::cut_lengths), using(crate::proofs::Passed::passed))]
 pub fn cut_message(
     form: Form,
     start: Start,
     message: &[u8],
     out: &mut [u8],
     lengths: &mut [usize],
-) -> Cut
+) -> Result<Cut, Refusal>
     ensures value { result ≡ cut_of form start message.now (length out.old) (length lengths.old) }
     ensures written { out.new ≡ cut_output form start message.now out.old (length lengths.old) }
     ensures listed { lengths.new ≡ cut_lengths form start message.now (length out.old) lengths.old }
-    ensures number { cut_number result ≡ verdict_number (cut_verdict form start message.now (length out.old) (length lengths.old)) }
+    ensures number { refusal_number result ≡ refusal_number (cut_verdict form start message.now (length out.old) (length lengths.old)) }
     ensures frames { cut_count result ≡ value_by (cut_verdict form start message.now (length out.old) (length lengths.old)) (length (frames_of form start message.now)) }
     ensures bytes { cut_bytes result ≡ value_by (cut_verdict form start message.now (length out.old) (length lengths.old)) (length (bytes_in (frames_of form start message.now))) }
 {
-    let verdict = check_cut(form, start, message, out.len(), lengths.len());
-    match verdict {
-        Verdict::Done => put_frames(form, start, message, out, lengths),
-        Verdict::Refused(why) => Cut::Refused(why),
-    }
+    check_cut(form, start, message, out.len(), lengths.len())?;
+    Ok(put_frames(form, start, message, out, lengths))
 }

@@ -9,7 +9,6 @@ use Prim.Native.Nat.{ℕ, suc, ◌*◌, ◌≤◌}
 use native.Mathlib.Omega.{arith}
 use lib.ListN.{length, take, drop}
 use lib.Seq.{take_at}
-use Rattle.refusal.specs.declared.Verdict.{Verdict}
 use Rattle.refusal.specs.Positions.{Checked, verdict_of}
 use Rattle.lists.specs.Lists.{over}
 use Rattle.frame_fields.specs.Rows.{AreBytes}
@@ -19,19 +18,15 @@ use Rattle.frame_writer.specs.Writing.{output_by}
 use Rattle.frame.specs.declared.Data.{Data}
 use Rattle.frame.specs.declared.Packet.TheVariants.{Data as DataPacket}
 use Rattle.frame.specs.declared.UserData.{UserData}
-use Rattle.frame.specs.declared.Read.TheVariants.{Packet as PacketRead}
 use Rattle.frame.specs.Writing.{fits}
 use Rattle.frame.specs.Reading.{read_of}
 use Rattle.frame.proofs.Frames.{reads-frame}
 use Rattle.message.specs.declared.cutting.Start.{Start}
-use Rattle.frame.specs.declared.MaybeData.TheVariants.{Nothing}
-use Rattle.message.specs.declared.cutting.Cut.TheVariants.{Frames}
-use Rattle.message.specs.declared.joining.Joined.TheVariants.{Bytes}
 use Rattle.lists.specs.Frames.{bytes_in, lengths_of, parts_of, is_none}
-use Rattle.message.specs.Cutting.{share_of, full_frames, data_of, frames_from, frames_of, cut_verdict, cut_by, cut_of, cut_output, cut_lengths}
+use Rattle.message.specs.Cutting.{share_of, full_frames, data_of, frames_from, frames_of, cut_verdict, cut_by, cut_into, cut_of, cut_output, cut_lengths}
 use Rattle.message.specs.Joining.{frames_checks, message_in, join_checks, join_by, join_of, join_output}
 use Rattle.lists.proofs.Frames.{parts-back, sum-lengths, count-lengths, count-parts, bytes_back, lengths-back}
-use Rattle.message.proofs.Sizes.{share-range, frames-count}
+use Rattle.message.proofs.Sizes.{share_range, frames-count}
 use Rattle.message.proofs.Passed.{by_frames, passed, accepts}
 use Rattle.message.proofs.Answers.{by_bytes, JoinDone, join-done, join-accepts}
 use Rattle.message_claims.specs.Claims.{FramesAreJoined, IsCut, CutIsJoined, AsCut, start_of, JoinedIsCut, Reassembly}
@@ -41,6 +36,9 @@ use Rattle.message_claims.proofs.Shares.{shares-hold, shares-fewest}
 use Rattle.message_claims.proofs.Cutting.{first, frames-run, frames-message}
 use Rattle.message_claims.proofs.Joining.{message-shares}
 use Rattle.message_claims.proofs.Again.{AllBytes, frames-again}
+use Rattle.refusal.specs.Numbers.{Verdict}
+use Rattle.frame.specs.declared.Contents.TheVariants.{Packet as PacketIn}
+use Rattle.std.specs.Prelude.{Ok, None}
 
 -- ---- by the layout
 
@@ -57,14 +55,14 @@ frames-join form s message room good fit small enough =
     let share = share_of form in
     let k = full_frames share (length message) in
     let fs = frames_from form k s message in
-    let some : 1 ≤ share = omega (arith, (share-range form good).0) in
+    let some : 1 ≤ share = omega (arith, (share_range form good).0) in
     let hold = shares-hold share (length message) some in
     let msg : message_in form (parts_of (lengths_of fs) (bytes_in fs)) ≡ message = ap (message_in form) (parts-back fs) ∙ frames-message form good k s message fit hold in (
       record {
         good = good;
         sums = sum-lengths fs;
         some = some-lengths fs k (frames-count form k s message);
-        run = ap (frames_checks form Nothing 0) (parts-back fs) ∙ frames-run form good k s message Nothing 0 fit first hold;
+        run = ap (frames_checks form None 0) (parts-back fs) ∙ frames-run form good k s message None 0 fit first hold;
         small = subst (λ (m : List ℕ). length m ≤ 4096) (sym msg) small;
         fits-room = subst (λ (m : List ℕ). length m ≤ room) (sym msg) enough;
       },
@@ -79,7 +77,7 @@ frames-are-joined form s message room good fit small enough =
     let j = frames-join form s message (length room) good fit small enough in
     let v = join-accepts form (lengths_of fs) (bytes_in fs) (length room) j.0 in
     record {
-      answer = ap (λ (x : Checked). join_by x (length (message_in form (parts_of (lengths_of fs) (bytes_in fs))))) v ∙ ap (λ (m : List ℕ). Bytes (length m)) j.1;
+      answer = ap (λ (x : Checked). join_by x (length (message_in form (parts_of (lengths_of fs) (bytes_in fs))))) v ∙ ap (λ (m : List ℕ). Ok (length m)) j.1;
       output = ap (λ (x : Checked). output_by (verdict_of x) (message_in form (parts_of (lengths_of fs) (bytes_in fs))) room) v ∙ ap (λ (m : List ℕ). over m room) j.1;
     }
 
@@ -89,20 +87,20 @@ all-bytes [] bytes b = tt
 all-bytes (l ∷ ls) bytes b = let p = are-bytes l bytes b in (p.0, all-bytes ls (drop l bytes) p.1)
 
 -- what is known of frames that join
-joins : (form : Form) (lengths bytes : List ℕ) (room n : ℕ) → join_of form lengths bytes room ≡ Bytes n → JoinDone form lengths bytes room
+joins : (form : Form) (lengths bytes : List ℕ) (room n : ℕ) → join_of form lengths bytes room ≡ Ok n → JoinDone form lengths bytes room
 unfolding join_of
 joins form lengths bytes room n e =
     join-done form lengths bytes room (by_bytes (join_checks form lengths bytes room) (length (message_in form (parts_of lengths bytes))) n e)
 
 joined-are-frames : (form : Form) (l : ℕ) (ls bytes : List ℕ) (room n : ℕ) (d : Data) (place : UserData)
-    → AreBytes bytes → join_of form (l ∷ ls) bytes room ≡ Bytes n → read_of form (take l bytes) ≡ PacketRead (DataPacket d) place
+    → AreBytes bytes → join_of form (l ∷ ls) bytes room ≡ Ok n → read_of form (take l bytes) ≡ Ok (PacketIn (DataPacket d) place)
     → AsCut form d.pr.0 true (parts_of (l ∷ ls) bytes) → parts_of (l ∷ ls) bytes ≡ frames_of form (start_of d) (message_in form (parts_of (l ∷ ls) bytes))
 unfolding frames_of
 joined-are-frames form l ls bytes room n d place are e reads as-cut =
     let lengths = l ∷ ls in
     let message = message_in form (parts_of lengths bytes) in
     let j = joins form lengths bytes room n e in
-    let again = frames-again form j.good true (take l bytes) (parts_of ls (drop l bytes)) Nothing 0 d place (all-bytes lengths bytes are) reads j.run as-cut in
+    let again = frames-again form j.good true (take l bytes) (parts_of ls (drop l bytes)) None 0 d place (all-bytes lengths bytes are) reads j.run as-cut in
     sym (ap (λ (k : ℕ). frames_from form k (start_of d) message) again.1 ∙ again.0)
 
 -- ---- cut, then joined
@@ -119,7 +117,7 @@ is_cut form s message out lengths good long fit small room places =
       lengths-out = ap (λ (x : Verdict). output_by x (lengths_of fs) lengths) v;
     }
 
-cut-is-joined : (form : Form) (s : Start) (message out lengths room : List ℕ) (count bytes : ℕ) → cut_of form s message (length out) (length lengths) ≡ Frames count bytes
+cut-is-joined : (form : Form) (s : Start) (message out lengths room : List ℕ) (count bytes : ℕ) → cut_of form s message (length out) (length lengths) ≡ cut_into count bytes
     → length message ≤ length room → CutIsJoined form s message out lengths room count bytes
 unfolding cut_of
 cut-is-joined form s message out lengths room count bytes e enough =
@@ -140,7 +138,7 @@ cut-is-joined form s message out lengths room count bytes e enough =
 -- ---- joined, then cut
 
 joined-is-cut : (form : Form) (l : ℕ) (ls bytes : List ℕ) (room n : ℕ) (d : Data) (place : UserData) (out places : List ℕ)
-    → is_long form ≡ true → AreBytes bytes → join_of form (l ∷ ls) bytes room ≡ Bytes n → read_of form (take l bytes) ≡ PacketRead (DataPacket d) place
+    → is_long form ≡ true → AreBytes bytes → join_of form (l ∷ ls) bytes room ≡ Ok n → read_of form (take l bytes) ≡ Ok (PacketIn (DataPacket d) place)
     → AsCut form d.pr.0 true (parts_of (l ∷ ls) bytes) → length bytes ≤ length out → length (l ∷ ls) ≤ length places
     → JoinedIsCut form (l ∷ ls) bytes d out places
 joined-is-cut form l ls bytes room n d place out places long are e reads as-cut room_out room-places =
@@ -155,23 +153,23 @@ joined-is-cut form l ls bytes room n d place out places long are e reads as-cut 
     let fit : fits form (data_of s false) 0 ≡ true = fits-start form d place.len (reads-frame form (take l bytes) (DataPacket d) place reads).fit in
     let cut = is_cut form s message out places j.good long fit j.small (subst (λ (x : List ℕ). length x ≤ length out) (sym B) room_out) (omega (arith, N, room-places)) in
     record {
-      answer = cut.answer ∙ ap₂ Frames N (ap length B);
+      answer = cut.answer ∙ ap₂ cut_into N (ap length B);
       output = cut.output ∙ ap (λ (x : List ℕ). over x out) B;
       lengths-out = cut.lengths-out ∙ ap (λ (x : List ℕ). over x places) L;
     }
 
 -- ---- as few as possible
 
-fewest : (form : Form) (lengths bytes : List ℕ) (room n : ℕ) (s : Start) → join_of form lengths bytes room ≡ Bytes n
+fewest : (form : Form) (lengths bytes : List ℕ) (room n : ℕ) (s : Start) → join_of form lengths bytes room ≡ Ok n
     → length (frames_of form s (message_in form (parts_of lengths bytes))) ≤ length lengths
 unfolding frames_of
 fewest form lengths bytes room n s e =
     let fs = parts_of lengths bytes in
     let message = message_in form fs in
     let j = joins form lengths bytes room n e in
-    let some : 1 ≤ share_of form = omega (arith, (share-range form j.good).0) in
+    let some : 1 ≤ share_of form = omega (arith, (share_range form j.good).0) in
     let k = full_frames (share_of form) (length message) in
-    let at_most : length message ≤ length lengths * share_of form = subst (λ (x : ℕ). length message ≤ x * share_of form) (count-parts lengths bytes) (message-shares form j.good Nothing 0 fs j.run) in
+    let at_most : length message ≤ length lengths * share_of form = subst (λ (x : ℕ). length message ≤ x * share_of form) (count-parts lengths bytes) (message-shares form j.good None 0 fs j.run) in
     let more : 1 ≤ length lengths = go lengths j.some in
     omega (arith, frames-count form k s message, shares-fewest (share_of form) (length message) (length lengths) some more at_most)
   where

@@ -9,51 +9,49 @@ use native.Mathlib.Nat.{suc-mul}
 use native.Mathlib.Omega.{arith}
 use lib.ListN.{length, take, drop, length-drop, length-take, take-append-drop}
 use borrow.Author.Tests.{eq-eqb}
-use Rattle.refusal.specs.declared.Verdict.{Verdict}
-use Rattle.refusal.specs.declared.Verdict.TheVariants.{Done}
-use Rattle.refusal.specs.Positions.{passed, and_then_at, all_at, from}
+use Rattle.refusal.specs.Positions.{and_then_at, all_at, from}
 use Rattle.frame_form.specs.declared.Form.{Form}
 use Rattle.frame_form.specs.Forms.{form_valid}
 use Rattle.frame.specs.declared.Data.{Data}
-use Rattle.frame.specs.declared.Read.{Read}
-use Rattle.frame.specs.declared.Read.TheVariants.{Packet as PacketRead}
 use Rattle.frame.specs.Writing.{fits, frame_of}
 use Rattle.frame.specs.Reading.{read_of, data_in}
 use Rattle.frame.specs.Reading.{place_of}
 use Rattle.frame.proofs.Frames.{frame-reads, frame-user}
 use Rattle.sequence.specs.Modular.{next}
 use Rattle.message.specs.declared.cutting.Start.{Start}
-use Rattle.frame.specs.declared.MaybeData.{MaybeData}
-use Rattle.frame.specs.declared.MaybeData.TheVariants.{Nothing, Data as SomeData}
 use Rattle.lists.specs.Frames.{is_none}
 use Rattle.message.specs.Cutting.{share_of, data_of, next_start, frames_from}
 use Rattle.message.specs.Joining.{follows, data_verdict, turn_checks, user_of, frames_checks, message_in}
 use Rattle.message_claims.proofs.Starts.{start_fits, next_fits}
-use Rattle.message.proofs.Sizes.{share-range}
+use Rattle.message.proofs.Sizes.{share_range}
+use Rattle.refusal.specs.Numbers.{Verdict}
+use Rattle.frame.specs.Packets.{Read}
+use Rattle.frame.specs.declared.Contents.TheVariants.{Packet as PacketIn}
+use Rattle.std.specs.Prelude.{Ok, Option, Some, None}
 
 -- the packet of a frame, without its kind
 abbrev pub data_record : Start → Bool → Data
 data_record s more = record { m = more; sn = s.sn; ps = s.ps; pr = s.pr; ch = s.ch }
 
 -- a frame with the numbers s is the first one, or comes after one with the numbers before s
-pub data Goes : MaybeData → Start → Type 0 where
-  first : {s : Start} → Goes Nothing s
-  after : {s : Start} {more : Bool} → Goes (SomeData (data_record s more)) (next_start s)
+pub data Goes : Option Data → Start → Type 0 where
+  first : {s : Start} → Goes None s
+  after : {s : Start} {more : Bool} → Goes (Some (data_record s more)) (next_start s)
 
-goes-follows : (b : MaybeData) (s : Start) (more : Bool) → Goes b s → follows b (data_record s more) ≡ true
+goes-follows : (b : Option Data) (s : Start) (more : Bool) → Goes b s → follows b (data_record s more) ≡ true
 goes-follows b s more first = refl
 goes-follows b s more (after {s = t}) = rw (eq-eqb (next 64 t.sn.0) (next 64 t.sn.0) refl, eq-eqb (next 16 t.ps.0) (next 16 t.ps.0) refl) (eq-eqb t.ch t.ch refl)
 
 -- the frame of a share reads as its packet
 module _ (form : Form) (good : form_valid form ≡ true) (s : Start) (fit : fits form (data_of s false) 0 ≡ true) (more : Bool) (user : List ℕ) (small : length user ≤ share_of form) where
-  pub share-reads : read_of form (frame_of form (data_of s more) user) ≡ PacketRead (data_of s more) (place_of (data_of s more) (length user))
-  share-reads = frame-reads form (data_of s more) user good (start_fits form s more (length user) fit) (omega (arith, small, (share-range form good).2))
+  pub share-reads : read_of form (frame_of form (data_of s more) user) ≡ Ok (PacketIn (data_of s more) (place_of (data_of s more) (length user)))
+  share-reads = frame-reads form (data_of s more) user good (start_fits form s more (length user) fit) (omega (arith, small, (share_range form good).2))
 
   share-user : user_of (read_of form (frame_of form (data_of s more) user)) (frame_of form (data_of s more) user) ≡ user
   share-user = ap (λ (r : Read). user_of r (frame_of form (data_of s more) user)) share-reads ∙ frame-user form (data_of s more) user
 
 -- the last frame has M = 0, any other M = 1
-turn-done : (b : MaybeData) (s : Start) (more : Bool) → Goes b s → data_verdict b (not more) (data_record s more) ≡ Done
+turn-done : (b : Option Data) (s : Start) (more : Bool) → Goes b s → data_verdict b (not more) (data_record s more) ≡ Ok tt
 unfolding data_verdict
 turn-done b s true goes = rw (goes-follows b s true goes)
 turn-done b s false goes = rw (goes-follows b s false goes)
@@ -73,20 +71,20 @@ share-left share k message h = omega (arith, h, length-drop share message, suc-m
 pub one-share : (share : ℕ) (message : List ℕ) → length message ≤ 1 * share → length message ≤ share
 one-share share message h = omega (arith, h)
 
-pub frames-run : (form : Form) → form_valid form ≡ true → (k : ℕ) (s : Start) (message : List ℕ) (b : MaybeData) (start : ℕ) → fits form (data_of s false) 0 ≡ true → Goes b s
-    → length message ≤ suc k * share_of form → frames_checks form b start (frames_from form k s message) ≡ passed
+pub frames-run : (form : Form) → form_valid form ≡ true → (k : ℕ) (s : Start) (message : List ℕ) (b : Option Data) (start : ℕ) → fits form (data_of s false) 0 ≡ true → Goes b s
+    → length message ≤ suc k * share_of form → frames_checks form b start (frames_from form k s message) ≡ Ok tt
 unfolding frames_from frames_checks
 frames-run form good zero s message b start fit goes small =
-    ap (λ (r : Read). and_then_at (from start (turn_checks b true r)) passed) (share-reads form good s fit false message (one-share (share_of form) message small))
-    ∙ ap (λ (v : Verdict). and_then_at (from start (all_at 0 v)) passed) (turn-done b s false goes)
+    ap (λ (r : Read). and_then_at (from start (turn_checks b true r)) (Ok tt)) (share-reads form good s fit false message (one-share (share_of form) message small))
+    ∙ ap (λ (v : Verdict). and_then_at (from start (all_at 0 v)) (Ok tt)) (turn-done b s false goes)
 frames-run form good (suc k) s message b start fit goes small =
     let share = share_of form in
     let f = frame_of form (data_of s true) (take share message) in
     let rest = frames_from form k (next_start s) (drop share message) in
     ap₂ (λ (n : Bool) (r : Read). and_then_at (from start (turn_checks b n r)) (frames_checks form (data_in r) (start + length f) rest)) (more-frames form k (next_start s) (drop share message))
     (share-reads form good s fit true (take share message) (share-taken share message))
-    ∙ ap (λ (v : Verdict). and_then_at (from start (all_at 0 v)) (frames_checks form (SomeData (data_record s true)) (start + length f) rest)) (turn-done b s true goes)
-    ∙ frames-run form good k (next_start s) (drop share message) (SomeData (data_record s true)) (start + length f) (next_fits form s fit) after (share-left share k message small)
+    ∙ ap (λ (v : Verdict). and_then_at (from start (all_at 0 v)) (frames_checks form (Some (data_record s true)) (start + length f) rest)) (turn-done b s true goes)
+    ∙ frames-run form good k (next_start s) (drop share message) (Some (data_record s true)) (start + length f) (next_fits form s fit) after (share-left share k message small)
 
 pub frames-message : (form : Form) → form_valid form ≡ true → (k : ℕ) (s : Start) (message : List ℕ) → fits form (data_of s false) 0 ≡ true
     → length message ≤ suc k * share_of form → message_in form (frames_from form k s message) ≡ message

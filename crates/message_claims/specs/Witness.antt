@@ -2,13 +2,11 @@
 -- computation. The form is a long one, and SN goes on from 63 to 0 and PS from 15 to 0.
 -- proofs/Witness.antt proves it (`past-sixty-three`).
 -- Assumes nothing.
-use Rattle.std.specs.Prelude.{◌≡◌, List, [], ◌∷◌, ◌++◌, ℕ}
+use Rattle.std.specs.Prelude.{◌≡◌, List, [], ◌∷◌, ◌++◌, ℕ, Ok}
 use Rattle.sequence.specs.Numbers.{link, packet}
 use Rattle.frame_form.specs.declared.Form.TheVariants.{LongDownlink}
 use Rattle.message.specs.declared.cutting.Start.{Start}
-use Rattle.message.specs.declared.cutting.Cut.TheVariants.{Frames}
-use Rattle.message.specs.declared.joining.Joined.TheVariants.{Bytes}
-use Rattle.message.specs.Cutting.{cut_of, cut_output, cut_lengths}
+use Rattle.message.specs.Cutting.{cut_into, cut_of, cut_output, cut_lengths}
 use Rattle.message.specs.Joining.{join_of, join_output}
 
 -- SN 63, PS 15, PR 2, CH 4
@@ -35,10 +33,10 @@ lent_eight = 9 ∷ 9 ∷ 9 ∷ 9 ∷ 9 ∷ 9 ∷ 9 ∷ 9 ∷ []
 
 pub record PastSixtyThree : Type 0 where
   -- what `cut-is-joined` requires: cutting answered with two frames of 20 bytes in all
-  pub answer : cut_of (LongDownlink 1) last_numbers eight_bytes 21 3 ≡ Frames 2 20
+  pub answer : cut_of (LongDownlink 1) last_numbers eight_bytes 21 3 ≡ cut_into 2 20
   -- what it wrote
   pub output : cut_output (LongDownlink 1) last_numbers eight_bytes lent_bytes 3 ≡ two_frames ++ (9 ∷ [])
   pub lengths-out : cut_lengths (LongDownlink 1) last_numbers eight_bytes 21 lent_places ≡ 10 ∷ 10 ∷ 9 ∷ []
   -- what `joined-is-cut` requires: joining accepted them
-  pub joined : join_of (LongDownlink 1) (10 ∷ 10 ∷ []) two_frames 8 ≡ Bytes 8
+  pub joined : join_of (LongDownlink 1) (10 ∷ 10 ∷ []) two_frames 8 ≡ Ok 8
   pub message-back : join_output (LongDownlink 1) (10 ∷ 10 ∷ []) two_frames lent_eight ≡ eight_bytes

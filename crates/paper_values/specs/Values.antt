@@ -1,27 +1,25 @@
 -- Document 01, "Values to check": P1 to P12 as one table, the record `Values`. Each row is about
 -- the definition that the contract of the call uses.
 -- Assumes nothing.
-use Rattle.std.specs.Prelude.{◌≡◌, true, false, List, [], ◌∷◌, ℕ, ◌+◌, length, replicate, set}
-use Rattle.refusal.specs.declared.Verdict.TheVariants.{Done}
+use Rattle.std.specs.Prelude.{◌≡◌, true, false, List, [], ◌∷◌, ℕ, ◌+◌, length, replicate, set, Ok}
 use Rattle.sequence.specs.Numbers.{link, packet}
 use Rattle.wordset.specs.Sets.{with}
 use Rattle.window.specs.declared.sender.Sender.{Sender}
-use Rattle.window.specs.declared.sender.Grant.TheVariants.{Granted}
-use Rattle.window.specs.Sending.{send_of, grant_number}
+use Rattle.window.specs.Sending.{send_of}
 use Rattle.resequencer.specs.declared.Resequencer.{Resequencer}
-use Rattle.resequencer.specs.declared.Outcome.TheVariants.{Held, Old}
 use Rattle.resequencer.specs.declared.Answer.{Answer}
 use Rattle.resequencer.specs.Events.{plain, handed, arrive_of, clock_end_of}
 use Rattle.frame_form.specs.declared.Form.{Form}
 use Rattle.frame_form.specs.declared.Form.TheVariants.{LongUplink, LongDownlink}
-use Rattle.frame.specs.declared.Written.TheVariants.{Done as Wrote}
 use Rattle.frame.specs.declared.Packet.{Packet}
 use Rattle.frame.specs.declared.Packet.TheVariants.{Data, ClearRequest, ClearConfirmation}
-use Rattle.frame.specs.declared.Read.TheVariants.{Packet as PacketRead}
 use Rattle.frame.specs.Writing.{write_of, write_output}
 use Rattle.frame.specs.Reading.{read_of}
 use Rattle.route.specs.declared.Updated.{Updated}
 use Rattle.route.specs.Updating.{empty_table, reported, update_of}
+use Rattle.resequencer.specs.declared.Outcome.TheVariants.{Held, Old}
+use Rattle.frame.specs.declared.Contents.TheVariants.{Packet as PacketIn}
+use Rattle.refusal.specs.Numbers.{refusal_number}
 
 -- ---- the window
 
@@ -87,28 +85,28 @@ frame11 = 0x5C ∷ 0x09 ∷ 0x32 ∷ 0x41 ∷ 0 ∷ 0 ∷ 0 ∷ 0 ∷ 0 ∷ 0 �
 -- to it; `start` is the index of the user data. "long form": P9 to P11 hold of the long uplink and
 -- of the long downlink
 pub record IsFrame (form : Form) (p : Packet) (user frame : List ℕ) (start : ℕ) : Type 0 where
-  pub answer : write_of form p (length user) (length old) ≡ Wrote 10
+  pub answer : write_of form p (length user) (length old) ≡ Ok 10
   pub output : write_output form p user old ≡ frame
-  pub read : read_of form frame ≡ PacketRead p (record { at = start; len = length user })
+  pub read : read_of form frame ≡ Ok (PacketIn p (record { at = start; len = length user }))
 
 -- ---- routes
 
 -- P12's answer: only code 5 (the set 32, which is 2 ^ 5) at 40 hex, none reported
 abbrev pub updated12 : Updated
-updated12 = reported Done (record { codes = set (replicate 256 0) 0x40 32 }) []
+updated12 = reported (Ok tt) (record { codes = set (replicate 256 0) 0x40 32 }) []
 
 -- ---- the table
 
 pub record Values : Type 0 where
   -- P1 edge 9: next 7 may be sent.
-  pub p1 : send_of (sender_with 9 7) ≡ record { answer = Granted (packet 7); next = sender_with 9 8 }
+  pub p1 : send_of (sender_with 9 7) ≡ record { answer = Ok (packet 7); next = sender_with 9 8 }
   -- P2 edge 9: next 8 gives 9.
-  pub p2 : grant_number (send_of (sender_with 9 8)).answer ≡ 9
+  pub p2 : refusal_number (send_of (sender_with 9 8)).answer ≡ 9
   pub p2-end : (send_of (sender_with 9 8)).next ≡ sender_with 9 8
   -- P3 NESN 62, fresh otherwise: 29 is held. P4 then 30 is old. P5 61 is old.
-  pub p3 : (arrival (fresh_at 62) 29).outcome ≡ Held
-  pub p4 : arrival (after_arrivals (fresh_at 62) (29 ∷ [])) 30 ≡ plain Old (after_arrivals (fresh_at 62) (29 ∷ []))
-  pub p5 : arrival (fresh_at 62) 61 ≡ plain Old (fresh_at 62)
+  pub p3 : (arrival (fresh_at 62) 29).outcome ≡ Ok Held
+  pub p4 : arrival (after_arrivals (fresh_at 62) (29 ∷ [])) 30 ≡ plain (Ok Old) (after_arrivals (fresh_at 62) (29 ∷ []))
+  pub p5 : arrival (fresh_at 62) 61 ≡ plain (Ok Old) (fresh_at 62)
   -- P6 NESN 62: 1, 62, 63, 0 hand on nothing, 62, 63, then 0 and 1; NESN 2, no clock.
   pub p6 : handed_in_turn (fresh_at 62) (1 ∷ 62 ∷ 63 ∷ 0 ∷ []) ≡ [] ∷ (162 ∷ []) ∷ (163 ∷ []) ∷ (100 ∷ 101 ∷ []) ∷ []
   pub p6-state : after_arrivals (fresh_at 62) (1 ∷ 62 ∷ 63 ∷ 0 ∷ []) ≡ fresh_at 2

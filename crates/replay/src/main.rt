@@ -9,7 +9,7 @@
 // nothing is written to it.
 #![tactic(auto)]
 
-ghost use Rattle.std.specs.Prelude.{◌≡◌, true, ◌+◌, ◌≤◌, ◌<◌, length};
+ghost use Rattle.std.specs.Prelude.{◌≡◌, ◌≤◌, length, IfOk};
 ghost use Rattle.replay_script.specs.Feeding.{feed_next};
 
 use replay_script::Replay;
@@ -18,206 +18,138 @@ use std::io::{ErrorKind, Read, Write};
 use std::os::unix::fs::FileTypeExt;
 use std::{fs, io};
 
-// The state after a read: what is kept of the script so far, whether a carriage return was seen
-// before a line end, whether every read and write succeeded, and how many more reads may be made.
-#[derive(Clone, Copy)]
-struct Turn {
-    kept: Replay,
-    crlf: bool,
-    good: bool,
-    reads: u64,
+// How the program ended.
+#[derive(Clone, Copy, Debug, PartialEq, Eq)]
+enum Mark {
+    Done,
+    DoneCrlf,
+    Input,
+    Left,
+    Output,
 }
 
-// What is kept after some bytes of the script, and whether their report was written.
+// What is kept of the whole script, and whether a carriage return was seen before a line end.
 #[derive(Clone, Copy)]
-struct Ran {
+struct Script {
     kept: Replay,
-    good: bool,
+    crlf: bool,
 }
 
 fn main(rt: HostRuntime) {
     let mut input = [0u8; 65536];
     let mut out = [0u8; 65536];
-    replay(&rt, &mut input, &mut out);
-}
-
-// Prints the header, and then the report of the input.
-fn replay(rt: &HostRuntime, input: &mut [u8], out: &mut [u8])
-    requires { 65536 ≤ length out.old }
-{
-    let header = replay_script::header();
-    if print(rt, &header) {
-        let last = read_all(rt, input, out);
-        if last.good {
-            let kept = last.kept;
-            end(rt, kept, last.crlf, out);
-        }
-    }
-}
-
-// Prints the report of a last line without its line end, and writes the mark of a good end.
-fn end(rt: &HostRuntime, kept: Replay, crlf: bool, out: &mut [u8]) {
-    let last = kept.finish(out);
-    let written = last.written;
-    if print(rt, &out[..written]) {
-        if crlf {
-            mark(rt, b"done crlf\n");
-        } else {
-            mark(rt, b"done\n");
-        }
-    }
-}
-
-// Reads to the end of the input, or until a read or a write fails. A proved loop has to end, and
-// the input may be endless: so the reads are counted down from 2^64 - 1.
-fn read_all(rt: &HostRuntime, input: &mut [u8], out: &mut [u8]) -> Turn
-    requires { 65536 ≤ length out.old }
-{
-    let mut turn = Turn {
-        kept: Replay::fresh(),
-        crlf: false,
-        good: true,
-        reads: u64::MAX,
+    let mark = match replay(&rt, &mut input, &mut out) {
+        Ok(mark) => mark,
+        Err(mark) => mark,
     };
-    while 0 < turn.reads {
-        let next = read_once(rt, turn, input, out);
-        turn = next;
-    }
-    turn
+    let _ = mark.write(&rt);
 }
 
-// Reads once and runs the bytes read. If there are none, the input has ended.
-fn read_once(rt: &HostRuntime, turn: Turn, input: &mut [u8], out: &mut [u8]) -> Turn
-    requires { (0 < turn.reads) × (65536 ≤ length out.old) }
-    ensures { result.reads < turn.reads }
+// Prints the header, the report of the input, and that of a last line without its line end.
+// (The room of `out`, which three functions require, was tried as a `[u8; 65536]`: the proofs of the
+// parts of it that are printed did not close.)
+fn replay(rt: &HostRuntime, input: &mut [u8], out: &mut [u8]) -> Result<Mark, Mark>
+    requires { 65536 ≤ length out.old }
 {
-    let kept = turn.kept;
-    match rt.stdin().read(input) {
-        Ok(0) => stopped(kept, turn.crlf, true),
-        Ok(count) => run_read(rt, turn, &input[..count], out),
-        Err(_) => {
-            mark(rt, b"input\n");
-            stopped(kept, turn.crlf, false)
+    print(rt, &replay_script::header())?;
+    let script = read_all(rt, input, out)?;
+    let last = script.kept.finish(out);
+    let written = last.written;
+    print(rt, &out[..written])?;
+    Ok(if script.crlf {
+        Mark::DoneCrlf
+    } else {
+        Mark::Done
+    })
+}
+
+// Reads to the end of the input, or until a read or a write fails, and runs what is read. A proved
+// loop has to end, and the input may be endless: so the reads are counted up to 2^64 - 1.
+fn read_all(rt: &HostRuntime, input: &mut [u8], out: &mut [u8]) -> Result<Script, Mark>
+    requires { 65536 ≤ length out.old }
+{
+    let mut kept = Replay::fresh();
+    let mut crlf = false;
+    for _ in 0..u64::MAX {
+        match rt.stdin().read(input) {
+            Ok(0) => return Ok(Script { kept, crlf }),
+            Ok(count) => {
+                crlf = crlf || sees_crlf(&input[..count]);
+                kept = run(rt, kept, &input[..count], out)?;
+            }
+            Err(_) => return Err(Mark::Input),
         }
     }
+    Ok(Script { kept, crlf })
 }
 
-// Runs the bytes of one read.
-fn run_read(rt: &HostRuntime, turn: Turn, bytes: &[u8], out: &mut [u8]) -> Turn
-    requires { (0 < turn.reads) × (65536 ≤ length out.old) }
-    ensures { result.reads < turn.reads }
-{
-    let kept = turn.kept;
-    let crlf = sees_crlf(turn.crlf, bytes);
-    let ran = run(rt, kept, bytes, out);
-    let next = ran.kept;
-    if ran.good {
-        return Turn {
-            kept: next,
-            crlf,
-            good: true,
-            reads: turn.reads - 1,
-        };
-    }
-    stopped(next, crlf, false)
-}
-
-// The state in which nothing more is read.
-fn stopped(kept: Replay, crlf: bool, good: bool) -> Turn
-    ensures { result.reads ≡ 0 }
-{
-    Turn {
-        kept,
-        crlf,
-        good,
-        reads: 0,
-    }
-}
-
-// Whether a carriage return was seen before, or is seen in front of the first line end of these
-// bytes that is not their first byte. Not every line is looked at, as this serves for a hint only.
-fn sees_crlf(before: bool, bytes: &[u8]) -> bool {
-    if before {
-        return true;
-    }
-    let mut i = 1;
-    while i < bytes.len() {
+// Whether a carriage return is in front of the first line end of these bytes that is not their
+// first byte. Not every line is looked at, as this serves for a hint only.
+fn sees_crlf(bytes: &[u8]) -> bool {
+    for i in 1..bytes.len() {
         if bytes[i] == b'\n' {
             return bytes[i - 1] == b'\r';
         }
-        i += 1;
     }
     false
 }
 
 // Runs the bytes in parts of at most 64, for whose report 16,384 bytes of the output are enough.
 // Prints the output when fewer are left, and at the end.
-fn run(rt: &HostRuntime, kept: Replay, bytes: &[u8], out: &mut [u8]) -> Ran
+fn run(rt: &HostRuntime, kept: Replay, bytes: &[u8], out: &mut [u8]) -> Result<Replay, Mark>
     requires { 65536 ≤ length out.old }
-    ensures { result.good ≡ true → result.kept ≡ feed_next kept bytes.now }
+    ensures { IfOk result (λ next. next ≡ feed_next kept bytes.now) }
 {
     let mut replay = kept;
-    let mut at = 0;
     let mut end = 0;
-    while at < bytes.len() {
-        let to = part_end(at, bytes.len());
+    for part in 0..bytes.len().div_ceil(64) {
+        let at = 64 * part;
+        let to = bytes.len().min(at + 64);
         let fed = replay.feed(&bytes[at..to], &mut out[end..]);
-        let next = fed.next;
-        replay = next;
-        at = to;
-        end = end + fed.written;
+        replay = fed.next;
+        end += fed.written;
         if 49152 < end {
-            if !print(rt, &out[..end]) {
-                return Ran {
-                    kept: replay,
-                    good: false,
-                };
-            }
+            print(rt, &out[..end])?;
             end = 0;
         }
     }
-    let good = print(rt, &out[..end]);
-    Ran { kept: replay, good }
-}
-
-// The end of the part that begins at `at`: 64 bytes further, or `count` if fewer are left.
-fn part_end(at: usize, count: usize) -> usize
-    requires { at < count }
-    ensures { (at < result) × (result ≤ count) × (result ≤ at + 64) }
-{
-    if 64 < count - at { at + 64 } else { count }
+    print(rt, &out[..end])?;
+    Ok(replay)
 }
 
 // ---- what is written
 
-// Prints bytes. If they cannot be written, writes the mark that says so.
-fn print(rt: &HostRuntime, bytes: &[u8]) -> bool {
+// Prints bytes. If they cannot be written, the mark says whether anybody still reads the report.
+fn print(rt: &HostRuntime, bytes: &[u8]) -> Result<(), Mark> {
     match rt.write_all(bytes) {
-        Ok(()) => true,
-        Err(why) => {
-            unwritten(rt, why);
-            false
+        Ok(()) => Ok(()),
+        Err(why) => match why.kind() {
+            ErrorKind::BrokenPipe => Err(Mark::Left),
+            _ => Err(Mark::Output),
+        },
+    }
+}
+
+impl Mark {
+    fn text(self) -> &'static [u8] {
+        match self {
+            Mark::Done => b"done\n",
+            Mark::DoneCrlf => b"done crlf\n",
+            Mark::Input => b"input\n",
+            Mark::Left => b"left\n",
+            Mark::Output => b"output\n",
         }
     }
-}
 
-// Writes the mark of a write that failed: nobody reads the report any more, or it cannot be
-// written.
-fn unwritten(rt: &HostRuntime, why: io::Error) {
-    match why.kind() {
-        ErrorKind::BrokenPipe => mark(rt, b"left\n"),
-        _ => mark(rt, b"output\n"),
-    }
-}
-
-// Writes the mark, if descriptor 3 is a pipe. It is opened anew by its name, which would write over
-// a file: so nothing else is opened.
-fn mark(rt: &HostRuntime, text: &[u8]) {
-    if let Ok(found) = fs::metadata(rt, "/dev/fd/3") {
+    // Writes the mark, if descriptor 3 is a pipe. It is opened anew by its name, which would write
+    // over a file: so nothing else is opened. Each program has its own: a public function of a
+    // library promises its whole answer, and nothing can be promised of what a file takes.
+    fn write(self, rt: &HostRuntime) -> io::Result<()> {
+        let found = fs::metadata(rt, "/dev/fd/3")?;
         if found.file_type().is_fifo() {
-            if let Ok(mut file) = OpenOptions::new().write(true).open(rt, "/dev/fd/3") {
-                let _ = file.write_all(text);
-            }
+            let mut file = OpenOptions::new().write(true).open(rt, "/dev/fd/3")?;
+            file.write_all(self.text())?;
         }
+        Ok(())
     }
 }

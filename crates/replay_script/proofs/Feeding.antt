@@ -10,9 +10,7 @@ use lib.ListN.{length, set, get_or, take, drop, length-set, length-append}
 use lib.Seq.{take_all}
 use borrow.Author.Tests.{ne_eqb, le-leb, lt-leb, lt-ltb, le-ltb}
 use Rattle.refusal.specs.declared.Refusal.TheVariants.{OutputTooShort}
-use Rattle.refusal.specs.declared.Verdict.{Verdict}
-use Rattle.refusal.specs.declared.Verdict.TheVariants.{Done, Refused}
-use Rattle.refusal.specs.Numbers.{verdict_number, check}
+use Rattle.refusal.specs.Numbers.{check, refusal_number, Verdict}
 use Rattle.resequencer.specs.declared.Answer.{Answer}
 use Rattle.replay_script.specs.declared.Line.{Line}
 use Rattle.replay_script.specs.declared.Replay.{Replay}
@@ -20,13 +18,16 @@ use Rattle.replay_script.specs.declared.Fed.{Fed}
 use Rattle.replay_script.specs.declared.Finished.{Finished}
 use Rattle.replay_script.specs.Lines.{line_in, line_answer, answer_text, line_text}
 use Rattle.replay_script.specs.Feeding.{pending, run_line, byte_next, byte_text, feed_next, feed_text, feed_verdict, feed_by, feed_of, feed_out_by, feed_out, finish_text, finish_next, finish_verdict, finish_by, finish_of, finish_out_by, finish_out}
-use Rattle.replay_script.specs.Writing.{Wrote, least}
-use Rattle.replay_script.proofs.Writing.{none, then, meant, in-front, grown, take-least}
+use Rattle.text.specs.Writing.{Wrote}
+use Rattle.text.proofs.Writing.{none, then, meant, in-front}
+use Rattle.replay_script.specs.Writing.{least}
+use Rattle.replay_script.proofs.Writing.{grown, take-least}
 use Rattle.replay_script.proofs.Lines.{line-next, line-written}
+use Rattle.std.specs.Prelude.{Ok, Err, Option}
 
 -- ---- the line that is kept
 
-pub kept_line : (line : List ℕ) (have : ℕ) {l : Line} {size : ℕ} → length line ≡ 14 → size ≡ least have 14 → l ≡ line_in (take size line)
+pub kept_line : (line : List ℕ) (have : ℕ) {l : Option Line} {size : ℕ} → length line ≡ 14 → size ≡ least have 14 → l ≡ line_in (take size line)
     → l ≡ line_in (take have line)
 kept_line line have n e h = h ∙ ap (λ k. line_in (take k line)) e ∙ ap line_in (take-least have 14 line n)
 
@@ -148,18 +149,18 @@ module _ (r₀ : Replay) (part o : List ℕ) where
 -- ---- the call for a part
 
 feed-verdict : (v : Verdict) (r : Replay) (part : List ℕ) → (feed_by v r part).verdict ≡ v
-feed-verdict Done r part = refl
-feed-verdict (Refused why) r part = refl
+feed-verdict (Ok tt) r part = refl
+feed-verdict (Err why) r part = refl
 
 -- its promises: the answer, its number, the lent output
 pub feed-numbered : (r : Replay) (part o : List ℕ) {f : Fed} {o' : List ℕ} → (f ≡ feed_of r part o) × (o' ≡ feed_out r part o)
-    → (f ≡ feed_of r part o) × ((verdict_number f.verdict ≡ verdict_number (feed_verdict part o)) × (o' ≡ feed_out r part o))
+    → (f ≡ feed_of r part o) × ((refusal_number f.verdict ≡ refusal_number (feed_verdict part o)) × (o' ≡ feed_out r part o))
 unfolding feed_of
-feed-numbered r part o p = (p.0, (ap (λ x. verdict_number x.verdict) p.0 ∙ ap verdict_number (feed-verdict (feed_verdict part o) r part), p.1))
+feed-numbered r part o p = (p.0, (ap (λ x. refusal_number x.verdict) p.0 ∙ ap refusal_number (feed-verdict (feed_verdict part o) r part), p.1))
 
 module _ (r : Replay) (part o : List ℕ) where
   pub feed-refused : length o / 256 < length part
-      → (◌≡◌ {A = Fed} (record { verdict = Refused OutputTooShort; written = 0; next = r }) (feed_of r part o)) × (o ≡ feed_out r part o)
+      → (◌≡◌ {A = Fed} (record { verdict = Err OutputTooShort; written = 0; next = r }) (feed_of r part o)) × (o ≡ feed_out r part o)
   unfolding feed_of feed_out feed_verdict
   feed-refused h =
       let k : length o < length part * 256 = omega arith in
@@ -168,14 +169,14 @@ module _ (r : Replay) (part o : List ℕ) where
 
   pub feed-done : {next : Replay} {o' : List ℕ} {end : ℕ} → length part ≤ length o / 256 → next ≡ feed_next r part
       → Wrote o o' 0 end (256 * length part) (feed_text r part)
-      → (◌≡◌ {A = Fed} (record { verdict = Done; written = end; next = next }) (feed_of r part o)) × (o' ≡ feed_out r part o)
+      → (◌≡◌ {A = Fed} (record { verdict = Ok tt; written = end; next = next }) (feed_of r part o)) × (o' ≡ feed_out r part o)
   unfolding feed_of feed_out feed_verdict
   feed-done {end = end} h e w =
       let k : length part * 256 ≤ length o = omega arith in
       let m : 256 * length part ≤ length o = omega arith in
       let t : leb (length part * 256) (length o) ≡ true = le-leb (length part * 256) (length o) k in
       let n : end ≡ length (feed_text r part) = omega (arith, w.end) in
-      (rw t (ap₂ (λ x y. record { verdict = Done; written = x; next = y }) n e), rw t (in-front w m))
+      (rw t (ap₂ (λ x y. record { verdict = Ok tt; written = x; next = y }) n e), rw t (in-front w m))
 
 -- ---- the call for the end
 
@@ -188,38 +189,38 @@ unfolding finish_text
 finish-line r h = (rw (ne_eqb r.have 0 h), rw (ne_eqb r.have 0 h))
 
 finish-verdict : (v : Verdict) (r : Replay) → (finish_by v r).verdict ≡ v
-finish-verdict Done r = refl
-finish-verdict (Refused why) r = refl
+finish-verdict (Ok tt) r = refl
+finish-verdict (Err why) r = refl
 
 -- its promises: the answer, its number, the lent output
 pub finish-numbered : (r : Replay) (o : List ℕ) {f : Finished} {o' : List ℕ} → (f ≡ finish_of r o) × (o' ≡ finish_out r o)
-    → (f ≡ finish_of r o) × ((verdict_number f.verdict ≡ verdict_number (finish_verdict o)) × (o' ≡ finish_out r o))
+    → (f ≡ finish_of r o) × ((refusal_number f.verdict ≡ refusal_number (finish_verdict o)) × (o' ≡ finish_out r o))
 unfolding finish_of
-finish-numbered r o p = (p.0, (ap (λ x. verdict_number x.verdict) p.0 ∙ ap verdict_number (finish-verdict (finish_verdict o) r), p.1))
+finish-numbered r o p = (p.0, (ap (λ x. refusal_number x.verdict) p.0 ∙ ap refusal_number (finish-verdict (finish_verdict o) r), p.1))
 
 module _ (r : Replay) (o : List ℕ) where
   pub finish-refused : length o < 256
-      → (◌≡◌ {A = Finished} (record { verdict = Refused OutputTooShort; written = 0; next = r }) (finish_of r o)) × (o ≡ finish_out r o)
+      → (◌≡◌ {A = Finished} (record { verdict = Err OutputTooShort; written = 0; next = r }) (finish_of r o)) × (o ≡ finish_out r o)
   unfolding finish_of finish_out finish_verdict
   finish-refused h =
       let e : leb 256 (length o) ≡ false = lt-leb 256 (length o) h in
       (rw e, rw e)
 
   finish-written : {next : Replay} {o' : List ℕ} {end : ℕ} → 256 ≤ length o → next ≡ finish_next r → Wrote o o' 0 end 256 (finish_text r)
-      → (◌≡◌ {A = Finished} (record { verdict = Done; written = end; next = next }) (finish_of r o)) × (o' ≡ finish_out r o)
+      → (◌≡◌ {A = Finished} (record { verdict = Ok tt; written = end; next = next }) (finish_of r o)) × (o' ≡ finish_out r o)
   unfolding finish_of finish_out finish_verdict
   finish-written {end = end} h e w =
       let t : leb 256 (length o) ≡ true = le-leb 256 (length o) h in
       let n : end ≡ length (finish_text r) = omega (arith, w.end) in
-      (rw t (ap₂ (λ x y. record { verdict = Done; written = x; next = y }) n e), rw t (in-front w h))
+      (rw t (ap₂ (λ x y. record { verdict = Ok tt; written = x; next = y }) n e), rw t (in-front w h))
 
   pub finish-empty : 256 ≤ length o → r.have ≡ 0
-      → (◌≡◌ {A = Finished} (record { verdict = Done; written = 0; next = r }) (finish_of r o)) × (o ≡ finish_out r o)
+      → (◌≡◌ {A = Finished} (record { verdict = Ok tt; written = 0; next = r }) (finish_of r o)) × (o ≡ finish_out r o)
   finish-empty h e = finish-written h (finish-none r e).1 (meant (none o 0 256) (finish-none r e).0 (omega arith))
 
   pub finish-ran : {a : Answer} {o' : List ℕ} {end : ℕ} → 256 ≤ length o → (r.have ≡ 0 → ⊥) → a ≡ line_answer r.state (line_in (pending r))
       → Wrote o o' 0 end 210 (answer_text a)
-      → (◌≡◌ {A = Finished} (record { verdict = Done; written = end; next = record { state = a.next; line = r.line; have = 0 } }) (finish_of r o))
+      → (◌≡◌ {A = Finished} (record { verdict = Ok tt; written = end; next = record { state = a.next; line = r.line; have = 0 } }) (finish_of r o))
       × (o' ≡ finish_out r o)
   finish-ran h e k w =
       finish-written h (ran-next r k ∙ (finish-line r e).1) (meant (ran-written r k w) (finish-line r e).0 (omega arith))
@@ -234,14 +235,14 @@ feed-fits r part o {f} {o'} e k =
     omega (arith, h, ap (λ x. x.written) e, ap length k)
   where
     go : (v : Verdict) → (feed_by v r part).written ≤ length (feed_out_by v r part o)
-    go Done = omega (arith, length-append (feed_text r part) (drop (length (feed_text r part)) o))
-    go (Refused why) = omega arith
+    go (Ok tt) = omega (arith, length-append (feed_text r part) (drop (length (feed_text r part)) o))
+    go (Err why) = omega arith
 
 pub feed-runs : (r : Replay) (part o : List ℕ) {f : Fed} → length part * 256 ≤ length o → f ≡ feed_of r part o → f.next ≡ feed_next r part
 unfolding feed_of feed_verdict
 feed-runs r part o h e =
     let t : leb (length part * 256) (length o) ≡ true = le-leb (length part * 256) (length o) h in
-    ap (λ x. x.next) (e ∙ ap (λ x. feed_by (check x OutputTooShort Done) r part) t)
+    ap (λ x. x.next) (e ∙ ap (λ x. feed_by (check x OutputTooShort (Ok tt)) r part) t)
 
 pub finish-fits : (r : Replay) (o : List ℕ) {f : Finished} {o' : List ℕ} → f ≡ finish_of r o → o' ≡ finish_out r o → f.written ≤ length o'
 unfolding finish_of finish_out
@@ -250,5 +251,5 @@ finish-fits r o {f} {o'} e k =
     omega (arith, h, ap (λ x. x.written) e, ap length k)
   where
     go : (v : Verdict) → (finish_by v r).written ≤ length (finish_out_by v r o)
-    go Done = omega (arith, length-append (finish_text r) (drop (length (finish_text r)) o))
-    go (Refused why) = omega arith
+    go (Ok tt) = omega (arith, length-append (finish_text r) (drop (length (finish_text r)) o))
+    go (Err why) = omega arith

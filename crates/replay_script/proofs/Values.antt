@@ -8,7 +8,8 @@ use Rattle.wordset.specs.Sets.{bit, member, set_of, first, how_many, every}
 use Rattle.resequencer.specs.State.{held_in_window, clocks_on_held, clocks_apart, hsnr_furthest, meets_clock, tickets_of_held, in_order}
 use Rattle.lists.specs.Lists.{list_from}
 use Rattle.resequencer.specs.Events.{plain, places, hand_on, remaining, advance, held_tickets, starts_clock, hold, run_after_nesn, hand_on_run, take_arrival, arrive_verdict, arrive_of, passed_by_clock, take_clock_end, clock_end_verdict, clock_end_of, handed}
-use Rattle.replay_script.specs.Text.{decimal, digit_at, decimal_in, is_number, all_digits, is_digit, value_from, spaced, all_spaced}
+use Rattle.text.specs.Decimal.{decimal, digit_at, spaced}
+use Rattle.replay_script.specs.Text.{decimal_in, is_number, all_digits, is_digit, value_from, all_spaced}
 use Rattle.replay_script.specs.Lines.{script_report, report_header, lines_text, lines_in, on_first, line_text, line_next, answer_text, line_answer, line_in, arrival_of, clock_end_line, word, after_word, tickets_text, result_text}
 
 -- `A 2 7`, `A 0 5`, `A 1 6`, `A 2 7`, `E 4`

@@ -2,12 +2,10 @@
 -- document 01, "The replay program" (Whole.antt claims it); that the script comes in parts, and how
 -- much room the output needs, are decisions of this library (docs/DECISIONS.md).
 -- Assumes nothing.
-use Rattle.std.specs.Prelude.{cond, List, [], ◌∷◌, ◌++◌, ℕ, ◌+◌, ◌*◌, eqb, leb, ltb, length, set, take, replicate}
+use Rattle.std.specs.Prelude.{cond, List, [], ◌∷◌, ◌++◌, ℕ, ◌+◌, ◌*◌, eqb, leb, ltb, length, set, take, replicate, Ok, Err}
 use Rattle.lists.specs.Lists.{over}
 use Rattle.refusal.specs.declared.Refusal.TheVariants.{OutputTooShort}
-use Rattle.refusal.specs.declared.Verdict.{Verdict}
-use Rattle.refusal.specs.declared.Verdict.TheVariants.{Done, Refused}
-use Rattle.refusal.specs.Numbers.{check}
+use Rattle.refusal.specs.Numbers.{check, Verdict}
 use Rattle.resequencer.specs.State.{fresh_state}
 use Rattle.replay_script.specs.declared.Replay.{Replay}
 use Rattle.replay_script.specs.declared.Fed.{Fed}
@@ -61,12 +59,12 @@ feed_text r (b ∷ bs) = byte_text r b ++ feed_text (byte_next r b) bs
 -- whether `feed` is refused: 5 if the lent output has no room for a line of report for each byte of
 -- the part, as each byte may end a line
 unfoldable pub feed_verdict : List ℕ → List ℕ → Verdict
-feed_verdict part out = check (leb (length part * line_room) (length out)) OutputTooShort Done
+feed_verdict part out = check (leb (length part * line_room) (length out)) OutputTooShort (Ok tt)
 
 -- the answer of `feed` by that verdict: a refusal writes 0 bytes and keeps the same `Replay`
 abbrev pub feed_by : Verdict → Replay → List ℕ → Fed
-feed_by Done r part = record { verdict = Done; written = length (feed_text r part); next = feed_next r part }
-feed_by (Refused why) r part = record { verdict = Refused why; written = 0; next = r }
+feed_by (Ok tt) r part = record { verdict = Ok tt; written = length (feed_text r part); next = feed_next r part }
+feed_by (Err why) r part = record { verdict = Err why; written = 0; next = r }
 
 -- the answer of `feed`
 unfoldable pub feed_of : Replay → List ℕ → List ℕ → Fed
@@ -75,8 +73,8 @@ feed_of r part out = feed_by (feed_verdict part out) r part
 -- the lent output afterwards: the report at its front, the rest unchanged; after a refusal all of
 -- it unchanged
 abbrev pub feed_out_by : Verdict → Replay → List ℕ → List ℕ → List ℕ
-feed_out_by Done r part out = over (feed_text r part) out
-feed_out_by (Refused why) r part out = out
+feed_out_by (Ok tt) r part out = over (feed_text r part) out
+feed_out_by (Err why) r part out = out
 
 unfoldable pub feed_out : Replay → List ℕ → List ℕ → List ℕ
 feed_out r part out = feed_out_by (feed_verdict part out) r part out
@@ -90,7 +88,7 @@ finish_text r = cond (eqb r.have 0) [] (line_text r.state (pending r))
 
 -- whether `finish` is refused: 5 if the lent output has no room for a line of report
 unfoldable pub finish_verdict : List ℕ → Verdict
-finish_verdict out = check (leb line_room (length out)) OutputTooShort Done
+finish_verdict out = check (leb line_room (length out)) OutputTooShort (Ok tt)
 
 -- what is kept afterwards: the unfinished line, if there is one, has been run
 abbrev pub finish_next : Replay → Replay
@@ -98,8 +96,8 @@ finish_next r = cond (eqb r.have 0) r (run_line r)
 
 -- the answer of `finish` by that verdict: a refusal writes 0 bytes and keeps the same `Replay`
 abbrev pub finish_by : Verdict → Replay → Finished
-finish_by Done r = record { verdict = Done; written = length (finish_text r); next = finish_next r }
-finish_by (Refused why) r = record { verdict = Refused why; written = 0; next = r }
+finish_by (Ok tt) r = record { verdict = Ok tt; written = length (finish_text r); next = finish_next r }
+finish_by (Err why) r = record { verdict = Err why; written = 0; next = r }
 
 -- the answer of `finish`
 unfoldable pub finish_of : Replay → List ℕ → Finished
@@ -108,8 +106,8 @@ finish_of r out = finish_by (finish_verdict out) r
 -- the lent output afterwards: the report at its front, the rest unchanged; after a refusal all of
 -- it unchanged
 abbrev pub finish_out_by : Verdict → Replay → List ℕ → List ℕ
-finish_out_by Done r out = over (finish_text r) out
-finish_out_by (Refused why) r out = out
+finish_out_by (Ok tt) r out = over (finish_text r) out
+finish_out_by (Err why) r out = out
 
 unfoldable pub finish_out : Replay → List ℕ → List ℕ
 finish_out r out = finish_out_by (finish_verdict out) r out

@@ -1,19 +1,21 @@
 -- A script, line by line, and its report: document 01, "The replay program". Lines and reports are
 -- lists of bytes.
 -- Assumes nothing.
-use Rattle.std.specs.Prelude.{cond, ◌&&◌, List, [], ◌∷◌, ◌++◌, ℕ, eqb, leb, get_or, drop}
-use Rattle.refusal.specs.declared.Refusal.TheVariants.{Malformed as LineMalformed}
+use Rattle.std.specs.Prelude.{cond, List, [], ◌∷◌, ◌++◌, ℕ, eqb, get_or, drop, Result, Ok, Err, Option, Some, None}
+use Rattle.refusal.specs.declared.Refusal.TheVariants.{Malformed}
 use Rattle.refusal.specs.Numbers.{number_of}
 use Rattle.wordset.specs.Sets.{count}
 use Rattle.resequencer.specs.declared.Resequencer.{Resequencer}
-use Rattle.resequencer.specs.declared.Outcome.{Outcome}
-use Rattle.resequencer.specs.declared.Outcome.TheVariants.{Held, HandedOn, Old, Duplicate, Refused}
 use Rattle.resequencer.specs.declared.Answer.{Answer}
 use Rattle.resequencer.specs.State.{fresh_state}
 use Rattle.resequencer.specs.Events.{plain, handed, arrive_of, clock_end_of}
 use Rattle.replay_script.specs.declared.Line.{Line}
-use Rattle.replay_script.specs.declared.Line.TheVariants.{Arrival, ClockEnd, Malformed}
-use Rattle.replay_script.specs.Text.{decimal_in, decimal, spaced, all_spaced}
+use Rattle.replay_script.specs.declared.Line.TheVariants.{Arrival, ClockEnd}
+use Rattle.text.specs.Decimal.{decimal, spaced}
+use Rattle.replay_script.specs.Text.{decimal_in, all_spaced}
+use Rattle.resequencer.specs.declared.Outcome.{Outcome}
+use Rattle.resequencer.specs.declared.Outcome.TheVariants.{Held, HandedOn, Old, Duplicate}
+use Rattle.refusal.specs.declared.Refusal.{Refusal}
 
 -- ---- reading a line: `A sn ticket` and `E sn`
 
@@ -27,33 +29,35 @@ unfoldable pub after_word : List ℕ → List ℕ
 after_word [] = []
 after_word (b ∷ bs) = cond (eqb b 32) bs (after_word bs)
 
--- the line of an arrival; "a value over 65,535 is malformed", and so is a text that is no number,
--- which is read as 65,536
-unfoldable pub arrival_of : ℕ → ℕ → Line
-arrival_of sn ticket = cond (leb sn 65535 && leb ticket 65535) (Arrival sn ticket) Malformed
+-- the line of an arrival; none if one of the two texts is no number
+unfoldable pub arrival_of : Option ℕ → Option ℕ → Option Line
+arrival_of (Some sn) (Some ticket) = Some (Arrival sn ticket)
+arrival_of (Some sn) None = None
+arrival_of None ticket = None
 
 -- the line of a clock end, in the same way
-unfoldable pub clock_end_line : ℕ → Line
-clock_end_line sn = cond (leb sn 65535) (ClockEnd sn) Malformed
+unfoldable pub clock_end_line : Option ℕ → Option Line
+clock_end_line (Some sn) = Some (ClockEnd sn)
+clock_end_line None = None
 
 -- a line without its line end, read: the letter A (65) or E (69), a blank (32), and then the
--- numbers. Anything else is malformed, an empty line too
-unfoldable pub line_in : List ℕ → Line
+-- numbers. Anything else is malformed, an empty line too, and gives none
+unfoldable pub line_in : List ℕ → Option Line
 line_in text =
     cond (eqb (get_or text 1 0) 32)
     (cond (eqb (get_or text 0 0) 65) (arrival_of (decimal_in (word (drop 2 text))) (decimal_in (after_word (drop 2 text))))
     (cond (eqb (get_or text 0 0) 69) (clock_end_line (decimal_in (drop 2 text)))
-    Malformed))
-    Malformed
+    None))
+    None
 
 -- ---- running a line
 
 -- the resequencer's answer to a line in the state s. "A malformed line has the result `refused 2`
 -- and changes nothing."
-unfoldable pub line_answer : Resequencer → Line → Answer
-line_answer s (Arrival sn ticket) = arrive_of s sn ticket
-line_answer s (ClockEnd sn) = clock_end_of s sn
-line_answer s Malformed = plain (Refused LineMalformed) s
+unfoldable pub line_answer : Resequencer → Option Line → Answer
+line_answer s (Some (Arrival sn ticket)) = arrive_of s sn ticket
+line_answer s (Some (ClockEnd sn)) = clock_end_of s sn
+line_answer s None = plain (Err Malformed) s
 
 -- ---- reporting a line: "NESN, number held, clocks, result (`-` held or nothing, tickets, `old`,
 -- `dup`, `refused n`)"
@@ -64,12 +68,12 @@ tickets_text [] = 32 ∷ 45 ∷ []
 tickets_text (t ∷ ts) = all_spaced (t ∷ ts)
 
 -- the result with its blank in front: ` -`, the tickets, ` old`, ` dup` or ` refused n`
-unfoldable pub result_text : Outcome → List ℕ → List ℕ
-result_text Held tickets = 32 ∷ 45 ∷ []
-result_text HandedOn tickets = tickets_text tickets
-result_text Old tickets = 32 ∷ 111 ∷ 108 ∷ 100 ∷ []
-result_text Duplicate tickets = 32 ∷ 100 ∷ 117 ∷ 112 ∷ []
-result_text (Refused why) tickets = 32 ∷ 114 ∷ 101 ∷ 102 ∷ 117 ∷ 115 ∷ 101 ∷ 100 ∷ spaced (number_of why)
+unfoldable pub result_text : Result Outcome Refusal → List ℕ → List ℕ
+result_text (Ok Held) tickets = 32 ∷ 45 ∷ []
+result_text (Ok HandedOn) tickets = tickets_text tickets
+result_text (Ok Old) tickets = 32 ∷ 111 ∷ 108 ∷ 100 ∷ []
+result_text (Ok Duplicate) tickets = 32 ∷ 100 ∷ 117 ∷ 112 ∷ []
+result_text (Err why) tickets = 32 ∷ 114 ∷ 101 ∷ 102 ∷ 117 ∷ 115 ∷ 101 ∷ 100 ∷ spaced (number_of why)
 
 -- the report of an answer: NESN, the number held and the number of clocks in the next state, the
 -- result, and a line end (10)

@@ -1,8 +1,13 @@
 -- Decimal numbers, read and written: document 01, "The replay program", "decimal, one to five
 -- digits, single blanks; a value over 65,535 is malformed". A text is a list of bytes; 48 to 57 are
--- the digits 0 to 9, and 32 is the blank.
+-- the digits 0 to 9, and 32 is the blank. One number is written as the crate `text` writes it.
 -- Assumes nothing.
-use Rattle.std.specs.Prelude.{Bool, true, cond, ◌&&◌, List, [], ◌∷◌, ◌++◌, ℕ, ◌+◌, ◌-◌, ◌*◌, ◌/◌, ◌%◌, leb, length}
+use Rattle.std.specs.Prelude.{Bool, true, cond, ◌&&◌, List, [], ◌∷◌, ◌++◌, ℕ, ◌+◌, ◌-◌, ◌*◌, leb, eqb, length, Option, Some, None}
+use Rattle.text.specs.Decimal.{spaced}
+
+-- the byte is a blank
+abbrev pub is_blank : ℕ → Bool
+is_blank b = eqb b 32
 
 -- ---- reading a number
 
@@ -24,23 +29,11 @@ value_from v (b ∷ bs) = value_from (v * 10 + (b - 48)) bs
 unfoldable pub is_number : List ℕ → Bool
 is_number text = leb 1 (length text) && (leb (length text) 5 && (all_digits text && leb (value_from 0 text) 65535))
 
--- the value of a text that is a number, 65,536 for any other text
-unfoldable pub decimal_in : List ℕ → ℕ
-decimal_in text = cond (is_number text) (value_from 0 text) 65536
+-- the value of a text that is a number, none for any other text
+unfoldable pub decimal_in : List ℕ → Option ℕ
+decimal_in text = cond (is_number text) (Some (value_from 0 text)) None
 
--- ---- writing a number
-
--- the digit of n at p, a power of ten, if n is at least p; else nothing
-unfoldable pub digit_at : ℕ → ℕ → List ℕ
-digit_at p n = cond (leb p n) ((48 + n / p % 10) ∷ []) []
-
--- n, which is below 100,000, in decimal with no zeros in front
-unfoldable pub decimal : ℕ → List ℕ
-decimal n = digit_at 10000 n ++ (digit_at 1000 n ++ (digit_at 100 n ++ (digit_at 10 n ++ ((48 + n % 10) ∷ []))))
-
--- a blank, and n in decimal
-unfoldable pub spaced : ℕ → List ℕ
-spaced n = 32 ∷ decimal n
+-- ---- writing numbers
 
 -- the numbers in decimal, each with a blank in front
 unfoldable pub all_spaced : List ℕ → List ℕ

@@ -1,20 +1,7 @@
--- What the private functions of `replay_script` compute (document 01, "The replay program"): text
--- written into lent bytes, and two limits.
+-- What the private functions of `replay_script` compute (document 01, "The replay program"): two
+-- limits. That a text was written into lent bytes is a definition of the crate `text`.
 -- Assumes nothing.
-use Rattle.std.specs.Prelude.{◌≡◌, cond, List, [], ◌∷◌, ℕ, suc, ◌+◌, ◌≤◌, leb, length, set}
-
--- the bytes o with the text written over them starting at index `from`
-unfoldable pub put : List ℕ → ℕ → List ℕ → List ℕ
-put o from [] = o
-put o from (b ∷ bs) = put (set o from b) (suc from) bs
-
--- the text was written to the bytes o starting at index `from`, and they are o' afterwards; r is
--- the index after the text, which has at most `most` bytes
-pub record Wrote (o o' : List ℕ) (from r most : ℕ) (text : List ℕ) : Type 0 where
-  pub end : r ≡ from + length text
-  pub within : r ≤ from + most
-  pub size : length o' ≡ length o
-  pub bytes : o' ≡ put o from text
+use Rattle.std.specs.Prelude.{cond, ℕ, leb}
 
 -- n, but at most `most`
 unfoldable pub least : ℕ → ℕ → ℕ

@@ -12,9 +12,7 @@ use lib.ListN.{length, set, replicate, get_or-replicate}
 use borrow.Author.Tests.{eq-eqb}
 use Rattle.refusal.specs.declared.Refusal.{Refusal}
 use Rattle.refusal.specs.declared.Refusal.TheVariants.{OutOfRange, NoClock, NotInOrder}
-use Rattle.refusal.specs.declared.Verdict.{Verdict}
-use Rattle.refusal.specs.declared.Verdict.TheVariants.{Done, Refused}
-use Rattle.refusal.specs.Numbers.{check}
+use Rattle.refusal.specs.Numbers.{check, Verdict}
 use Rattle.refusal.proofs.Checks.{check_done}
 use Rattle.sequence.specs.declared.LinkNumber.{LinkNumber}
 use Rattle.sequence.specs.Modular.{distance}
@@ -25,8 +23,6 @@ use Rattle.wordset.proofs.Sets.{every-all}
 use Rattle.resequencer.specs.declared.Resequencer.{Resequencer}
 use Rattle.resequencer.specs.declared.Numbers.{Numbers}
 use Rattle.resequencer.specs.declared.Step.{Step}
-use Rattle.resequencer.specs.declared.Outcome.{Outcome}
-use Rattle.resequencer.specs.declared.Outcome.TheVariants.{Held, HandedOn, Old, Duplicate, Refused as NotTaken}
 use Rattle.resequencer.specs.declared.Answer.{Answer}
 use Rattle.resequencer.specs.State.{is_held, has_clock, ahead, implies, nothing_held, hsnr_idle, clock_below_hsnr, held_in_window, clocks_on_held, clocks_apart, hsnr_furthest, tickets_of_held, in_order}
 use Rattle.resequencer.specs.Events.{plain, places, hand_on, remaining, advance, held_tickets, starts_clock, hold, run_after_nesn, hand_on_run, take_arrival, arrive_verdict, arrive_by, arrive_of, passed_by_clock, take_clock_end, clock_end_verdict, clock_end_by, clock_end_of}
@@ -36,6 +32,9 @@ use Rattle.resequencer.proofs.Order.{implication, in_order_lem}
 use Rattle.resequencer.proofs.Bounds.{run-after-bound, passed-bound}
 use Rattle.resequencer.proofs.Handing.{held-from}
 use Rattle.resequencer.proofs.Cases.{arrive-done, arrive-refused, arrive-passed, end-done, end_refused, end-passed}
+use Rattle.resequencer.specs.declared.Outcome.{Outcome}
+use Rattle.resequencer.specs.declared.Outcome.TheVariants.{Held, HandedOn, Old, Duplicate}
+use Rattle.std.specs.Prelude.{Result, Ok, Err}
 
 -- ---- good order
 
@@ -86,36 +85,36 @@ order-stray s t e q = q ∙ sym (good-split s ∙ ap (λ (b : Bool). b && in_ord
 -- ---- the parts of an answer
 
 module _ (s : Resequencer) where
-  stays : (o : Outcome) (d n ticket : ℕ) → hands_on o ≡ false → holds o ≡ false → step_answer s (step_by (numbers_of s) (plain o (bare (numbers_of s)))) d n ticket ≡ plain o s
+  stays : (o : Result Outcome Refusal) (d n ticket : ℕ) → hands_on o ≡ false → holds o ≡ false → step_answer s (step_by (numbers_of s) (plain o (bare (numbers_of s)))) d n ticket ≡ plain o s
   unfolding step_answer step_tickets step_state step_by plain places
   stays o d n ticket h k = rw (h, k)
 
 -- ---- steps as the code makes them
 
-pub still : (m : Numbers) (o : Outcome) → ◌≡◌ {A = Step} (record { outcome = o; next = m; passed = 0 }) (step_by m (plain o (bare m)))
+pub still : (m : Numbers) (o : Result Outcome Refusal) → ◌≡◌ {A = Step} (record { outcome = o; next = m; passed = 0 }) (step_by m (plain o (bare m)))
 unfolding step_by plain distance
 still m o =
     let z : 0 ≡ (m.nesn.0 + (64 - m.nesn.0 % 64)) % 64 = omega arith in
     ap (λ (k : ℕ). record { outcome = o; next = m; passed = k }) z
 
 pub held-step : (m : Numbers) (n : ℕ) (hsnr : LinkNumber) (held clocks : ℕ) → hsnr ≡ (hold (bare m) n 0).hsnr → held ≡ (hold (bare m) n 0).held → clocks ≡ (hold (bare m) n 0).clocks
-    → ◌≡◌ {A = Step} (record { outcome = Held; next = record { nesn = m.nesn; hsnr = hsnr; held = held; clocks = clocks }; passed = 0 }) (step_by m (plain Held (hold (bare m) n 0)))
+    → ◌≡◌ {A = Step} (record { outcome = (Ok Held); next = record { nesn = m.nesn; hsnr = hsnr; held = held; clocks = clocks }; passed = 0 }) (step_by m (plain (Ok Held) (hold (bare m) n 0)))
 unfolding step_by plain hold distance
 held-step m n hsnr held clocks h w c =
     let z : 0 ≡ (m.nesn.0 + (64 - m.nesn.0 % 64)) % 64 = omega arith in
     ap₂ (λ (x : LinkNumber) (y : ℕ). step x y clocks 0) h w ∙ ap₂ (λ (x k : ℕ). step (hold (bare m) n 0).hsnr (hold (bare m) n 0).held x k) c z
   where
     step : LinkNumber → ℕ → ℕ → ℕ → Step
-    step x y u k = record { outcome = Held; next = record { nesn = m.nesn; hsnr = x; held = y; clocks = u }; passed = k }
+    step x y u k = record { outcome = (Ok Held); next = record { nesn = m.nesn; hsnr = x; held = y; clocks = u }; passed = k }
 
 pub pass_step : (m : Numbers) (k : ℕ) (next : Numbers) → k < 64 → next ≡ numbers_of (advance (bare m) k)
-    → ◌≡◌ {A = Step} (record { outcome = HandedOn; next = next; passed = k }) (step_by m (hand_on [] (advance (bare m) k)))
+    → ◌≡◌ {A = Step} (record { outcome = Ok HandedOn; next = next; passed = k }) (step_by m (hand_on [] (advance (bare m) k)))
 unfolding step_by hand_on advance
 pass_step m k next l e =
     ap₂ (λ (x : Numbers) (y : ℕ). step x y) e (sym (distance-at 64 (lit< tt) m.nesn.0 k l))
   where
     step : Numbers → ℕ → Step
-    step x y = record { outcome = HandedOn; next = x; passed = y }
+    step x y = record { outcome = Ok HandedOn; next = x; passed = y }
 
 -- the step is the same whichever tickets are handed on
 pub any-tickets : (m : Numbers) (xs ys : List ℕ) (s : Resequencer) → step_by m (hand_on xs s) ≡ step_by m (hand_on ys s)
@@ -135,22 +134,22 @@ end_step true m n = refl
 end_step false m n = refl
 
 module _ (fits : Bool) (m : Numbers) (n : ℕ) where
-  pub arrive-taken : check fits NotInOrder (arrive_verdict (bare m) n) ≡ Done → step_by m (take_arrival (bare m) n 0) ≡ arrive_step fits m n
+  pub arrive-taken : check fits NotInOrder (arrive_verdict (bare m) n) ≡ Ok tt → step_by m (take_arrival (bare m) n 0) ≡ arrive_step fits m n
   arrive-taken e = sym (arrive-step fits m n ∙ ap (λ (v : Verdict). step_by m (arrive_by v (bare m) n 0)) e)
 
-  pub arrive-left : (why : Refusal) → check fits NotInOrder (arrive_verdict (bare m) n) ≡ Refused why → step_by m (plain (NotTaken why) (bare m)) ≡ arrive_step fits m n
+  pub arrive-left : (why : Refusal) → check fits NotInOrder (arrive_verdict (bare m) n) ≡ Err why → step_by m (plain (Err why) (bare m)) ≡ arrive_step fits m n
   arrive-left why e = sym (arrive-step fits m n ∙ ap (λ (v : Verdict). step_by m (arrive_by v (bare m) n 0)) e)
 
-  pub arrive-may : check fits NotInOrder (arrive_verdict (bare m) n) ≡ Done → (in_order (bare m) ≡ true) × (n < 64)
+  pub arrive-may : check fits NotInOrder (arrive_verdict (bare m) n) ≡ Ok tt → (in_order (bare m) ≡ true) × (n < 64)
   arrive-may e = arrive-passed (bare m) n (check_done fits _ _ e).1
 
-  pub end-taken : check fits NotInOrder (clock_end_verdict (bare m) n) ≡ Done → step_by m (take_clock_end (bare m) n) ≡ clock_end_step fits m n
+  pub end-taken : check fits NotInOrder (clock_end_verdict (bare m) n) ≡ Ok tt → step_by m (take_clock_end (bare m) n) ≡ clock_end_step fits m n
   end-taken e = sym (end_step fits m n ∙ ap (λ (v : Verdict). step_by m (clock_end_by v (bare m) n)) e)
 
-  pub end-left : (why : Refusal) → check fits NotInOrder (clock_end_verdict (bare m) n) ≡ Refused why → step_by m (plain (NotTaken why) (bare m)) ≡ clock_end_step fits m n
+  pub end-left : (why : Refusal) → check fits NotInOrder (clock_end_verdict (bare m) n) ≡ Err why → step_by m (plain (Err why) (bare m)) ≡ clock_end_step fits m n
   end-left why e = sym (end_step fits m n ∙ ap (λ (v : Verdict). step_by m (clock_end_by v (bare m) n)) e)
 
-  pub end-may : check fits NotInOrder (clock_end_verdict (bare m) n) ≡ Done → (in_order (bare m) ≡ true) × ((n < 64) × (member m.clocks n ≡ true))
+  pub end-may : check fits NotInOrder (clock_end_verdict (bare m) n) ≡ Ok tt → (in_order (bare m) ≡ true) × ((n < 64) × (member m.clocks n ≡ true))
   end-may e = end-passed (bare m) n (check_done fits _ _ e).1
 
 -- ---- by how much NESN goes up
@@ -167,7 +166,7 @@ module _ (m : Numbers) where
 -- ---- every step of an arrival and of a clock end meets `StepFits`
 
 module _ (m : Numbers) (d n ticket : ℕ) (one : d ≤ 1) (none : d ≡ 0 → ticket ≡ 0) where
-  quiet : (o : Outcome) (s : Resequencer) → hands_on o ≡ false → (holds o ≡ true → n < 64) → StepFits m.nesn.0 (step_by m (plain o s)) d n ticket
+  quiet : (o : Result Outcome Refusal) (s : Resequencer) → hands_on o ≡ false → (holds o ≡ true → n < 64) → StepFits m.nesn.0 (step_by m (plain o s)) d n ticket
   unfolding step_by plain
   quiet o s h l = record {
     own = one;
@@ -195,34 +194,34 @@ pub arrive-fits : (fits : Bool) (m : Numbers) (n ticket : ℕ) → StepFits m.ne
 arrive-fits fits m n ticket = go (check fits NotInOrder (arrive_verdict (bare m) n)) refl
   where
     taken : in_order (bare m) ≡ true → n < 64 → (a h z : Bool)
-        → StepFits m.nesn.0 (step_by m (cond a (plain Old (bare m)) (cond h (plain Duplicate (bare m)) (cond z (hand_on_run (bare m) 0) (plain Held (hold (bare m) n 0)))))) 1 n ticket
-    taken g l true h z = quiet m 1 n ticket (omega arith) (λ e. absurd (omega arith)) Old (bare m) refl (λ t. l)
-    taken g l false true z = quiet m 1 n ticket (omega arith) (λ e. absurd (omega arith)) Duplicate (bare m) refl (λ t. l)
+        → StepFits m.nesn.0 (step_by m (cond a (plain (Ok Old) (bare m)) (cond h (plain (Ok Duplicate) (bare m)) (cond z (hand_on_run (bare m) 0) (plain (Ok Held) (hold (bare m) n 0)))))) 1 n ticket
+    taken g l true h z = quiet m 1 n ticket (omega arith) (λ e. absurd (omega arith)) (Ok Old) (bare m) refl (λ t. l)
+    taken g l false true z = quiet m 1 n ticket (omega arith) (λ e. absurd (omega arith)) (Ok Duplicate) (bare m) refl (λ t. l)
     taken g l false false true =
         let o = in_order_lem (bare m) g in
         unfold hand_on_run in passing m 1 n ticket (omega arith) (λ e. absurd (omega arith)) _ (run_after_nesn (bare m) + 1) o.nesn-lt (omega arith) (omega (arith, run-after-bound (bare m) o))
-    taken g l false false false = quiet m 1 n ticket (omega arith) (λ e. absurd (omega arith)) Held (hold (bare m) n 0) refl (λ t. l)
+    taken g l false false false = quiet m 1 n ticket (omega arith) (λ e. absurd (omega arith)) (Ok Held) (hold (bare m) n 0) refl (λ t. l)
 
     go : (v : Verdict) → check fits NotInOrder (arrive_verdict (bare m) n) ≡ v → StepFits m.nesn.0 (arrive_step fits m n) 1 n ticket
-    go Done e =
+    go (Ok tt) e =
         subst (λ (s : Step). StepFits m.nesn.0 s 1 n ticket) (arrive-taken fits m n e)
         (let p = arrive-may fits m n e in unfold take_arrival in taken p.0 p.1 (ltb 31 (ahead (bare m) n)) (is_held (bare m) n) (eqb (ahead (bare m) n) 0))
-    go (Refused why) e =
+    go (Err why) e =
         subst (λ (s : Step). StepFits m.nesn.0 s 1 n ticket) (arrive-left fits m n why e)
-        (quiet m 1 n ticket (omega arith) (λ q. absurd (omega arith)) (NotTaken why) (bare m) refl (λ t. absurd (false≢true t)))
+        (quiet m 1 n ticket (omega arith) (λ q. absurd (omega arith)) (Err why) (bare m) refl (λ t. absurd (false≢true t)))
 
 pub end_fits : (fits : Bool) (m : Numbers) (n : ℕ) → StepFits m.nesn.0 (clock_end_step fits m n) 0 n 0
 end_fits fits m n = go (check fits NotInOrder (clock_end_verdict (bare m) n)) refl
   where
     go : (v : Verdict) → check fits NotInOrder (clock_end_verdict (bare m) n) ≡ v → StepFits m.nesn.0 (clock_end_step fits m n) 0 n 0
-    go Done e =
+    go (Ok tt) e =
         let p = end-may fits m n e in
         let o = in_order_lem (bare m) p.0 in
         subst (λ (s : Step). StepFits m.nesn.0 s 0 n 0) (end-taken fits m n e)
         (unfold take_clock_end in passing m 0 n 0 (omega arith) (λ q. refl) _ (passed_by_clock (bare m) n) o.nesn-lt (omega arith) (passed-bound (bare m) o n p.1.0 p.1.1))
-    go (Refused why) e =
+    go (Err why) e =
         subst (λ (s : Step). StepFits m.nesn.0 s 0 n 0) (end-left fits m n why e)
-        (quiet m 0 n 0 (omega arith) (λ q. refl) (NotTaken why) (bare m) refl (λ t. absurd (false≢true t)))
+        (quiet m 0 n 0 (omega arith) (λ q. refl) (Err why) (bare m) refl (λ t. absurd (false≢true t)))
 
 -- ---- the whole answer
 
@@ -234,7 +233,7 @@ module _ (s : Resequencer) where
       → step_answer s (step_by m (hand_on xs (advance (bare m) k))) d n ticket ≡ hand_on (arrived_tickets d ticket ++ held_tickets s d (k - d)) (advance s k)
   unfolding step_answer step_tickets step_state step_by hand_on advance remaining tickets_left
   hands xs k d n ticket l =
-      ap (λ (x : ℕ). step_answer s (record { outcome = HandedOn; next = numbers_of (advance (bare m) k); passed = x }) d n ticket) (distance-at 64 (lit< tt) s.nesn.0 k l)
+      ap (λ (x : ℕ). step_answer s (record { outcome = Ok HandedOn; next = numbers_of (advance (bare m) k); passed = x }) d n ticket) (distance-at 64 (lit< tt) s.nesn.0 k l)
 
   hands-run : (n ticket : ℕ) → in_order s ≡ true → step_answer s (step_by m (hand_on_run (bare m) 0)) 1 n ticket ≡ hand_on_run s ticket
   unfolding hand_on_run run_after_nesn
@@ -250,7 +249,7 @@ module _ (s : Resequencer) where
       hands _ (passed_by_clock s n) 0 n 0 (omega (arith, passed-bound s (in_order_lem s g) n l t))
       ∙ ap (λ (k : ℕ). hand_on (held_tickets s 0 k) (advance s (passed_by_clock s n))) e
 
-  keeps : (n ticket : ℕ) → step_answer s (step_by m (plain Held (hold (bare m) n 0))) 1 n ticket ≡ plain Held (hold s n ticket)
+  keeps : (n ticket : ℕ) → step_answer s (step_by m (plain (Ok Held) (hold (bare m) n 0))) 1 n ticket ≡ plain (Ok Held) (hold s n ticket)
   unfolding step_answer step_tickets step_state step_by plain hold starts_clock places
   keeps n ticket = refl
 
@@ -259,10 +258,10 @@ module _ (s : Resequencer) where
   taken-whole n ticket g = go (ltb 31 (ahead s n)) (is_held s n) (eqb (ahead s n) 0)
     where
       go : (a h z : Bool)
-          → step_answer s (step_by m (cond a (plain Old (bare m)) (cond h (plain Duplicate (bare m)) (cond z (hand_on_run (bare m) 0) (plain Held (hold (bare m) n 0)))))) 1 n ticket
-          ≡ cond a (plain Old s) (cond h (plain Duplicate s) (cond z (hand_on_run s ticket) (plain Held (hold s n ticket))))
-      go true h z = stays s Old 1 n ticket refl refl
-      go false true z = stays s Duplicate 1 n ticket refl refl
+          → step_answer s (step_by m (cond a (plain (Ok Old) (bare m)) (cond h (plain (Ok Duplicate) (bare m)) (cond z (hand_on_run (bare m) 0) (plain (Ok Held) (hold (bare m) n 0)))))) 1 n ticket
+          ≡ cond a (plain (Ok Old) s) (cond h (plain (Ok Duplicate) s) (cond z (hand_on_run s ticket) (plain (Ok Held) (hold s n ticket))))
+      go true h z = stays s (Ok Old) 1 n ticket refl refl
+      go false true z = stays s (Ok Duplicate) 1 n ticket refl refl
       go false false true = hands-run n ticket g
       go false false false = keeps n ticket
 
@@ -275,62 +274,66 @@ module _ (s : Resequencer) where
 
   same-arrive : (n : ℕ) → tickets_of_held s ≡ true → arrive_verdict s n ≡ arrive_verdict (bare m) n
   unfolding arrive_verdict
-  same-arrive n t = ap (λ (g : Bool). check g NotInOrder (check (in_field 64 n) OutOfRange Done)) (same-order t)
+  same-arrive n t = ap (λ (g : Bool). check g NotInOrder (check (in_field 64 n) OutOfRange (Ok tt))) (same-order t)
 
-  bad-arrive : (n : ℕ) → tickets_of_held s ≡ false → arrive_verdict s n ≡ Refused NotInOrder
+  bad-arrive : (n : ℕ) → tickets_of_held s ≡ false → arrive_verdict s n ≡ Err NotInOrder
   unfolding arrive_verdict
-  bad-arrive n t = ap (λ (g : Bool). check g NotInOrder (check (in_field 64 n) OutOfRange Done)) (no-order t)
+  bad-arrive n t = ap (λ (g : Bool). check g NotInOrder (check (in_field 64 n) OutOfRange (Ok tt))) (no-order t)
 
   same_end : (n : ℕ) → tickets_of_held s ≡ true → clock_end_verdict s n ≡ clock_end_verdict (bare m) n
   unfolding clock_end_verdict
-  same_end n t = ap (λ (g : Bool). check g NotInOrder (check (in_field 64 n) OutOfRange (check (has_clock s n) NoClock Done))) (same-order t)
+  same_end n t = ap (λ (g : Bool). check g NotInOrder (check (in_field 64 n) OutOfRange (check (has_clock s n) NoClock (Ok tt)))) (same-order t)
 
-  bad-end : (n : ℕ) → tickets_of_held s ≡ false → clock_end_verdict s n ≡ Refused NotInOrder
+  bad-end : (n : ℕ) → tickets_of_held s ≡ false → clock_end_verdict s n ≡ Err NotInOrder
   unfolding clock_end_verdict
-  bad-end n t = ap (λ (g : Bool). check g NotInOrder (check (in_field 64 n) OutOfRange (check (has_clock s n) NoClock Done))) (no-order t)
+  bad-end n t = ap (λ (g : Bool). check g NotInOrder (check (in_field 64 n) OutOfRange (check (has_clock s n) NoClock (Ok tt)))) (no-order t)
 
   pub arrive-whole : (n ticket : ℕ) → step_answer s (arrive_step (tickets_of_held s) m n) 1 n ticket ≡ arrive_of s n ticket
   arrive-whole n ticket = go (tickets_of_held s) refl
     where
       by-verdict : tickets_of_held s ≡ true → (v : Verdict) → arrive_verdict s n ≡ v → step_answer s (arrive_step true m n) 1 n ticket ≡ arrive_of s n ticket
-      by-verdict t Done e =
+      by-verdict t (Ok tt) e =
           ap (λ (x : Step). step_answer s x 1 n ticket) (sym (arrive-taken true m n (sym (same-arrive n t) ∙ e)))
           ∙ taken-whole n ticket (arrive-passed s n e).0
           ∙ sym (arrive-done s n ticket e)
-      by-verdict t (Refused why) e =
+      by-verdict t (Err why) e =
           ap (λ (x : Step). step_answer s x 1 n ticket) (sym (arrive-left true m n why (sym (same-arrive n t) ∙ e)))
-          ∙ stays s (NotTaken why) 1 n ticket refl refl
+          ∙ stays s (Err why) 1 n ticket refl refl
           ∙ sym (arrive-refused s n ticket why e)
 
       go : (b : Bool) → tickets_of_held s ≡ b → step_answer s (arrive_step b m n) 1 n ticket ≡ arrive_of s n ticket
       go true t = by-verdict t (arrive_verdict s n) refl
       go false t =
           ap (λ (x : Step). step_answer s x 1 n ticket) (sym (arrive-left false m n NotInOrder refl))
-          ∙ stays s (NotTaken NotInOrder) 1 n ticket refl refl
+          ∙ stays s (Err NotInOrder) 1 n ticket refl refl
           ∙ sym (arrive-refused s n ticket NotInOrder (bad-arrive n t))
 
   pub end_whole : (n : ℕ) → step_answer s (clock_end_step (tickets_of_held s) m n) 0 n 0 ≡ clock_end_of s n
   end_whole n = go (tickets_of_held s) refl
     where
       by-verdict : tickets_of_held s ≡ true → (v : Verdict) → clock_end_verdict s n ≡ v → step_answer s (clock_end_step true m n) 0 n 0 ≡ clock_end_of s n
-      by-verdict t Done e =
+      by-verdict t (Ok tt) e =
           let p = end-passed s n e in
           ap (λ (x : Step). step_answer s x 0 n 0) (sym (end-taken true m n (sym (same_end n t) ∙ e)))
           ∙ ends-whole n p.0 p.1.0 p.1.1
           ∙ sym (end-done s n e)
-      by-verdict t (Refused why) e =
+      by-verdict t (Err why) e =
           ap (λ (x : Step). step_answer s x 0 n 0) (sym (end-left true m n why (sym (same_end n t) ∙ e)))
-          ∙ stays s (NotTaken why) 0 n 0 refl refl
+          ∙ stays s (Err why) 0 n 0 refl refl
           ∙ sym (end_refused s n why e)
 
       go : (b : Bool) → tickets_of_held s ≡ b → step_answer s (clock_end_step b m n) 0 n 0 ≡ clock_end_of s n
       go true t = by-verdict t (clock_end_verdict s n) refl
       go false t =
           ap (λ (x : Step). step_answer s x 0 n 0) (sym (end-left false m n NotInOrder refl))
-          ∙ stays s (NotTaken NotInOrder) 0 n 0 refl refl
+          ∙ stays s (Err NotInOrder) 0 n 0 refl refl
           ∙ sym (end_refused s n NotInOrder (bad-end n t))
 
 -- ---- an answer as the code makes it
+
+-- an arm of the code says first that the call was not refused, and then what happened
+pub within : {told : Result Outcome Refusal} {found wanted : Outcome} → told ≡ Ok found → found ≡ wanted → told ≡ Ok wanted
+within e f = e ∙ ap Ok f
 
 abbrev answer_with : Step → ℕ → List ℕ → List ℕ → Answer
 answer_with step count out left = record {
@@ -370,12 +373,6 @@ module _ (s : Resequencer) (step : Step) (d n ticket : ℕ) where
   pub answer-still : hands_on step.outcome ≡ false → holds step.outcome ≡ false → answer_with step 0 (replicate 32 0) s.tickets ≡ step_answer s step d n ticket
   unfolding places
   answer-still h k = by-outcome false false h k
-
-  pub answer-refused : (why : Refusal) → step.outcome ≡ NotTaken why
-      → answer_with (record { outcome = NotTaken why; next = step.next; passed = step.passed }) 0 (replicate 32 0) s.tickets ≡ step_answer s step d n ticket
-  answer-refused why e =
-      ap (λ (o : Outcome). answer_with (record { outcome = o; next = step.next; passed = step.passed }) 0 (replicate 32 0) s.tickets) (sym e)
-      ∙ answer-still (ap hands_on e) (ap holds e)
 
 module _ (s : Resequencer) (fits : Bool) (m : Numbers) (n ticket : ℕ) (step : Step) (em : m ≡ numbers_of s) where
   pub arrive-asks : step ≡ arrive_step fits m n → StepFits s.nesn.0 step 1 n ticket

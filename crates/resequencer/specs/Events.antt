@@ -4,32 +4,23 @@
 -- sequence number and d its distance from NESN; in the definitions s is the state, n the sequence
 -- number and `ahead s n` its distance from NESN.
 -- Assumes nothing.
-use Rattle.std.specs.Prelude.{Bool, not, cond, ◌&&◌, ◌||◌, List, [], ◌∷◌, ◌++◌, ℕ, zero, suc, ◌+◌, ◌-◌, ◌%◌, ltb, eqb, length, set, take, replicate}
+use Rattle.std.specs.Prelude.{Bool, not, cond, ◌&&◌, ◌||◌, List, [], ◌∷◌, ◌++◌, ℕ, zero, suc, ◌+◌, ◌-◌, ◌%◌, ltb, eqb, length, set, take, replicate, Result, Ok, Err}
 use Rattle.refusal.specs.declared.Refusal.TheVariants.{OutOfRange, NoClock, NotInOrder}
-use Rattle.refusal.specs.declared.Verdict.{Verdict}
-use Rattle.refusal.specs.declared.Verdict.TheVariants.{Done, Refused}
-use Rattle.refusal.specs.Numbers.{number_of, check}
+use Rattle.refusal.specs.Numbers.{check, Verdict}
 use Rattle.lists.specs.Lists.{list_from}
 use Rattle.sequence.specs.Numbers.{link, in_field}
 use Rattle.wordset.specs.Sets.{member, set_of, with, run}
 use Rattle.resequencer.specs.declared.Resequencer.{Resequencer}
-use Rattle.resequencer.specs.declared.Outcome.{Outcome}
-use Rattle.resequencer.specs.declared.Outcome.TheVariants.{Held, HandedOn, Old, Duplicate, Refused as NotTaken}
 use Rattle.resequencer.specs.declared.Answer.{Answer}
 use Rattle.resequencer.specs.State.{is_held, has_clock, ticket_of, ahead, number_at, in_order}
-
--- the refusal number of an outcome, 0 if the call was not refused
-abbrev pub outcome_number : Outcome → ℕ
-outcome_number Held = 0
-outcome_number HandedOn = 0
-outcome_number Old = 0
-outcome_number Duplicate = 0
-outcome_number (NotTaken why) = number_of why
+use Rattle.resequencer.specs.declared.Outcome.{Outcome}
+use Rattle.resequencer.specs.declared.Outcome.TheVariants.{Held, HandedOn, Old, Duplicate}
+use Rattle.refusal.specs.declared.Refusal.{Refusal}
 
 -- ---- answers
 
 -- an answer that hands nothing on: count 0 and all 32 places 0
-unfoldable pub plain : Outcome → Resequencer → Answer
+unfoldable pub plain : Result Outcome Refusal → Resequencer → Answer
 plain outcome s = record { outcome = outcome; count = 0; tickets = replicate 32 0; next = s }
 
 -- the 32 places of an answer: the tickets handed on, then "unused places 0"
@@ -38,7 +29,7 @@ places tickets = tickets ++ replicate (32 - length tickets) 0
 
 -- an answer that hands these tickets on, with the next state s
 unfoldable pub hand_on : List ℕ → Resequencer → Answer
-hand_on tickets s = record { outcome = HandedOn; count = length tickets; tickets = places tickets; next = s }
+hand_on tickets s = record { outcome = Ok HandedOn; count = length tickets; tickets = places tickets; next = s }
 
 -- the tickets that an answer hands on: the first `count` places
 unfoldable pub handed : Answer → List ℕ
@@ -105,22 +96,22 @@ hand_on_run s ticket = hand_on (ticket ∷ held_tickets s 1 (run_after_nesn s)) 
 -- duplicate, dropped. Neither changes the state."; "d = 0"; "else s is held"
 unfoldable pub take_arrival : Resequencer → ℕ → ℕ → Answer
 take_arrival s n ticket =
-    cond (ltb 31 (ahead s n)) (plain Old s)
-    (cond (is_held s n) (plain Duplicate s)
+    cond (ltb 31 (ahead s n)) (plain (Ok Old) s)
+    (cond (is_held s n) (plain (Ok Duplicate) s)
     (cond (eqb (ahead s n) 0) (hand_on_run s ticket)
-    (plain Held (hold s n ticket))))
+    (plain (Ok Held) (hold s n ticket))))
 
 -- whether the arrival is refused. "Order: 14, then 1": good order first, then SN at most 63
 unfoldable pub arrive_verdict : Resequencer → ℕ → Verdict
 arrive_verdict s n =
     check (in_order s) NotInOrder
     (check (in_field 64 n) OutOfRange
-    Done)
+    (Ok tt))
 
 -- the answer by that verdict: a refusal hands nothing on and returns the same state
 abbrev pub arrive_by : Verdict → Resequencer → ℕ → ℕ → Answer
-arrive_by Done s n ticket = take_arrival s n ticket
-arrive_by (Refused why) s n ticket = plain (NotTaken why) s
+arrive_by (Ok tt) s n ticket = take_arrival s n ticket
+arrive_by (Err why) s n ticket = plain (Err why) s
 
 -- the answer to the arrival
 unfoldable pub arrive_of : Resequencer → ℕ → ℕ → Answer
@@ -145,12 +136,12 @@ clock_end_verdict s n =
     check (in_order s) NotInOrder
     (check (in_field 64 n) OutOfRange
     (check (has_clock s n) NoClock
-    Done))
+    (Ok tt)))
 
 -- the answer by that verdict: a refusal hands nothing on and returns the same state
 abbrev pub clock_end_by : Verdict → Resequencer → ℕ → Answer
-clock_end_by Done s n = take_clock_end s n
-clock_end_by (Refused why) s n = plain (NotTaken why) s
+clock_end_by (Ok tt) s n = take_clock_end s n
+clock_end_by (Err why) s n = plain (Err why) s
 
 -- the answer to the clock end
 unfoldable pub clock_end_of : Resequencer → ℕ → Answer

@@ -5,18 +5,19 @@
 -- step, with the tickets, determines the whole answer: `step_answer` equals `arrive_of` and
 -- `clock_end_of`.
 -- Assumes nothing.
-use Rattle.std.specs.Prelude.{◌≡◌, Bool, true, false, cond, List, [], ◌++◌, ℕ, ◌-◌, ◌≤◌, ◌<◌, length, set, replicate}
+use Rattle.std.specs.Prelude.{◌≡◌, Bool, true, false, cond, List, [], ◌++◌, ℕ, ◌-◌, ◌≤◌, ◌<◌, length, set, replicate, Result, Ok, Err}
 use Rattle.refusal.specs.declared.Refusal.TheVariants.{NotInOrder}
 use Rattle.sequence.specs.Modular.{distance}
 use Rattle.resequencer.specs.declared.Resequencer.{Resequencer}
 use Rattle.resequencer.specs.declared.Numbers.{Numbers}
 use Rattle.resequencer.specs.declared.Step.{Step}
-use Rattle.resequencer.specs.declared.Outcome.{Outcome}
-use Rattle.resequencer.specs.declared.Outcome.TheVariants.{Held, HandedOn, Old, Duplicate, Refused as NotTaken}
 use Rattle.resequencer.specs.declared.Answer.{Answer}
 use Rattle.resequencer.specs.State.{in_order}
 use Rattle.resequencer.specs.Events.{plain, places, held_tickets, arrive_of, clock_end_of}
 use Rattle.resequencer.specs.Parts.{tickets_left, arrived_tickets}
+use Rattle.resequencer.specs.declared.Outcome.{Outcome}
+use Rattle.resequencer.specs.declared.Outcome.TheVariants.{Held, HandedOn, Old, Duplicate}
+use Rattle.refusal.specs.declared.Refusal.{Refusal}
 
 -- a state without its tickets
 abbrev pub numbers_of : Resequencer → Numbers
@@ -40,30 +41,30 @@ step_by m a = record { outcome = a.outcome; next = numbers_of a.next; passed = d
 -- the step of an arrival of number n. `fits` is whether the tickets, wherever they are kept, are 0
 -- for all numbers not held; if not, the state is not in good order (refusal 14)
 unfoldable pub arrive_step : Bool → Numbers → ℕ → Step
-arrive_step fits m n = step_by m (cond fits (arrive_of (bare m) n 0) (plain (NotTaken NotInOrder) (bare m)))
+arrive_step fits m n = step_by m (cond fits (arrive_of (bare m) n 0) (plain (Err NotInOrder) (bare m)))
 
 -- the step of a clock end of number n
 unfoldable pub clock_end_step : Bool → Numbers → ℕ → Step
-clock_end_step fits m n = step_by m (cond fits (clock_end_of (bare m) n) (plain (NotTaken NotInOrder) (bare m)))
+clock_end_step fits m n = step_by m (cond fits (clock_end_of (bare m) n) (plain (Err NotInOrder) (bare m)))
 
 -- ---- the answer that a step gives in a state. d is 1 for an arrival and 0 for a clock end, which
 -- has no ticket of its own
 
 -- the call handed on
-abbrev pub hands_on : Outcome → Bool
-hands_on Held = false
-hands_on HandedOn = true
-hands_on Old = false
-hands_on Duplicate = false
-hands_on (NotTaken why) = false
+abbrev pub hands_on : Result Outcome Refusal → Bool
+hands_on (Ok Held) = false
+hands_on (Ok HandedOn) = true
+hands_on (Ok Old) = false
+hands_on (Ok Duplicate) = false
+hands_on (Err why) = false
 
 -- the call held a packet
-abbrev pub holds : Outcome → Bool
-holds Held = true
-holds HandedOn = false
-holds Old = false
-holds Duplicate = false
-holds (NotTaken why) = false
+abbrev pub holds : Result Outcome Refusal → Bool
+holds (Ok Held) = true
+holds (Ok HandedOn) = false
+holds (Ok Old) = false
+holds (Ok Duplicate) = false
+holds (Err why) = false
 
 -- what the code requires of a step before it moves tickets
 pub record StepFits (nesn : ℕ) (step : Step) (d n ticket : ℕ) : Type 0 where

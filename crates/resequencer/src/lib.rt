@@ -5,19 +5,18 @@
 #![tactic(auto)]
 
 ghost use Rattle.std.specs.Prelude.{◌≡◌, true, [], ◌++◌, ◌+◌, ◌^◌, ◌≤◌, ◌<◌, eqb, length, replicate};
-ghost use Rattle.refusal.specs.Numbers.{verdict_number, check};
+ghost use Rattle.refusal.specs.Numbers.{check, refusal_number};
 ghost use Rattle.refusal.specs.declared.Refusal.TheVariants.{NotInOrder};
 ghost use Rattle.sequence.specs.Numbers.{link};
 ghost use Rattle.wordset.specs.Sets.{member, every};
-ghost use Rattle.resequencer.specs.declared.Outcome.TheVariants.{Held};
 ghost use Rattle.resequencer.specs.State.{fresh_state, in_order};
-ghost use Rattle.resequencer.specs.Events.{outcome_number, plain, places, hand_on, advance, starts_clock, hold, take_arrival, arrive_verdict, arrive_of, take_clock_end, clock_end_verdict, clock_end_of};
+ghost use Rattle.resequencer.specs.Events.{plain, places, hand_on, advance, starts_clock, hold, take_arrival, arrive_verdict, arrive_of, take_clock_end, clock_end_verdict, clock_end_of};
 ghost use Rattle.resequencer.specs.Parts.{window_in_order, hsnr_in_order, ticket_fits, gather_stray, passed_numbers, tickets_left, hsnr_left, arrived_tickets, held_tickets_from};
 ghost use Rattle.resequencer.specs.Numbers.{numbers_of, bare, numbers_in_order, step_by, arrive_step, clock_end_step, StepFits, step_answer};
+ghost use Rattle.resequencer.specs.declared.Outcome.TheVariants.{Held};
 
-use refusal::{Refusal, Verdict};
-use sequence::LinkNumber;
-use wordset::set64;
+use refusal::Refusal;
+use sequence::{Counter, LinkNumber};
 
 // The state. `nesn` is the next number expected. Bit n of `held` is 1 exactly if number n is held,
 // and bit n of `clocks` exactly if its clock runs. `tickets[n]` is the ticket of the held number n.
@@ -32,22 +31,22 @@ pub struct Resequencer {
     pub tickets: [u16; 64],
 }
 
-// What happened on an arrival or a clock end. A clock end gives `HandedOn` or `Refused`.
-#[derive(Clone, Copy)]
+// What happened on an arrival or a clock end that is not refused. A clock end gives `HandedOn`.
+#[derive(Clone, Copy, Debug, PartialEq, Eq)]
 pub enum Outcome {
     Held,
     HandedOn,
     Old,
     Duplicate,
-    Refused(Refusal),
 }
 
-// The answer to an arrival or a clock end: the outcome, the tickets handed on and the next state.
+// The answer to an arrival or a clock end: the outcome or the refusal, the tickets handed on and the
+// next state.
 // The first `count` places of `tickets` are the tickets handed on, in order; the other places are
-// 0.
+// 0. The library uses no heap, so that a list of any length is an array with its count.
 #[derive(Clone, Copy)]
 pub struct Answer {
-    pub outcome: Outcome,
+    pub outcome: Result<Outcome, Refusal>,
     pub count: u8,
     pub tickets: [u16; 32],
     pub next: Resequencer,
@@ -69,24 +68,9 @@ pub struct Numbers {
 // other callers.
 #[derive(Clone, Copy)]
 pub struct Step {
-    pub outcome: Outcome,
+    pub outcome: Result<Outcome, Refusal>,
     pub next: Numbers,
     pub passed: u8,
-}
-
-impl Outcome {
-    // The refusal number of document 01, 0 if the call was not refused.
-    pub fn number(self) -> u8
-        ensures { result ≡ outcome_number self }
-    {
-        match self {
-            Outcome::Held => 0,
-            Outcome::HandedOn => 0,
-            Outcome::Old => 0,
-            Outcome::Duplicate => 0,
-            Outcome::Refused(why) => why.number(),
-        }
-    }
 }
 
 // Whether the two sets meet the clauses of good order that concern them alone, tested on whole
@@ -96,7 +80,7 @@ impl Outcome {
 fn window_in_order(h: u64, c: u64) -> bool
     ensures { result ≡ window_in_order h c }
 {
-    h % 2 == 0 && (h < 4294967296 && (set64::difference(c, h) == 0 && c & (c << 1) == 0))
+    h % 2 == 0 && (h < 4294967296 && (wordset::difference(c, h) == 0 && c & (c << 1) == 0))
 }
 
 // Whether HSNR, at distance `e` from NESN, meets the clauses of good order: HSNR is 0 if nothing is
@@ -130,10 +114,8 @@ fn gather_eight(stray: u16, held: u64, tickets: &[u16; 64], p: usize) -> u16
 {
     let eight = ((held >> p) % 256) as u16;
     let mut ones = stray;
-    let mut j: usize = 0;
-    while j < 8 {
+    for j in 0..8 {
         ones = gather_stray(ones, (eight >> j) & 1 == 1, tickets[p + j]);
-        j += 1;
     }
     ones
 }
@@ -143,20 +125,19 @@ fn tickets_in_order(held: u64, tickets: &[u16; 64]) -> bool
     ensures { result ≡ every 64 (ticket_fits held tickets.now) }
 {
     let mut stray: u16 = 0;
-    let mut p: usize = 0;
-    while p < 64 {
-        stray = gather_eight(stray, held, tickets, p);
-        p += 8;
+    for block in 0..8 {
+        stray = gather_eight(stray, held, tickets, 8 * block);
     }
     stray == 0
 }
 
-// The set of the `m` numbers starting at NESN.
+// The set of the `m` numbers starting at NESN. (That the count `m` is below 64 stands in four
+// contracts: a type for it would be a wrapper that each of them takes off again.)
 fn passed_numbers(nesn: u8, m: u8) -> u64
     requires { (nesn < 64) × (m < 64) }
     ensures { result ≡ passed_numbers nesn m }
 {
-    set64::rotate((1u64 << m) - 1, 64 - nesn)
+    wordset::rotate((1u64 << m) - 1, 64 - nesn)
 }
 
 // Sets the tickets of the `m` numbers starting at NESN to 0.
@@ -188,12 +169,13 @@ fn gather_held(
 {
     out[0] = ticket;
     let mut count = d;
-    let mut left = set64::stretch(held, start, m);
+    let mut left = wordset::stretch(held, start, m);
+    // no `for`: each turn takes the lowest number out of the set
     while left != 0 {
-        let from = ((start + set64::lowest(left)) % 64) as usize;
+        let from = ((start + wordset::lowest(left)) % 64) as usize;
         let to = count as usize;
         out[to] = tickets[from];
-        left = set64::without_lowest(left);
+        left = wordset::without_lowest(left);
         count += 1;
     }
     count
@@ -211,20 +193,16 @@ impl Numbers {
     pub fn in_order(self) -> bool
         ensures { result ≡ numbers_in_order self }
     {
-        let nesn = self.nesn;
-        let hsnr = self.hsnr;
-        if nesn.in_field() {
-            let h = set64::rotate(self.held, nesn.0);
-            let c = set64::rotate(self.clocks, nesn.0);
-            if window_in_order(h, c) {
-                return hsnr_in_order(h, c, nesn.distance_to(hsnr), hsnr);
-            }
+        if !self.nesn.in_field() {
+            return false;
         }
-        false
+        let h = wordset::rotate(self.held, self.nesn.0);
+        let c = wordset::rotate(self.clocks, self.nesn.0);
+        window_in_order(h, c) && hsnr_in_order(h, c, self.nesn.distance_to(self.hsnr), self.hsnr)
     }
 
     // The step that changes nothing.
-    fn stay(self, outcome: Outcome) -> Step
+    fn stay(self, outcome: Result<Outcome, Refusal>) -> Step
         ensures { result ≡ step_by self (plain outcome (bare self)) }
     {
         Step {
@@ -239,16 +217,13 @@ impl Numbers {
         requires { (self.nesn.0 < 64) × (m < 64) }
         ensures { result ≡ numbers_of (advance (bare self) m) }
     {
-        let nesn = self.nesn;
-        let passed = passed_numbers(nesn.0, m);
-        let held = set64::difference(self.held, passed);
-        let clocks = set64::difference(self.clocks, passed);
-        let hsnr = hsnr_left(held, self.hsnr);
+        let passed = passed_numbers(self.nesn.0, m);
+        let held = wordset::difference(self.held, passed);
         Numbers {
-            nesn: LinkNumber((nesn.0 + m) % 64),
-            hsnr: hsnr,
-            held: held,
-            clocks: clocks,
+            nesn: LinkNumber((self.nesn.0 + m) % 64),
+            hsnr: hsnr_left(held, self.hsnr),
+            held,
+            clocks: wordset::difference(self.clocks, passed),
         }
     }
 
@@ -258,7 +233,7 @@ impl Numbers {
         ensures { result ≡ step_by self (hand_on [] (advance (bare self) m)) }
     {
         Step {
-            outcome: Outcome::HandedOn,
+            outcome: Ok(Outcome::HandedOn),
             next: self.advance(m),
             passed: m,
         }
@@ -269,23 +244,19 @@ impl Numbers {
     fn starts_clock(self, sn: LinkNumber) -> bool
         ensures { result ≡ starts_clock (bare self) sn.0 }
     {
-        let nesn = self.nesn;
-        let hsnr = self.hsnr;
-        self.clocks == 0 || nesn.distance_to(hsnr) + 1 < nesn.distance_to(sn)
+        self.clocks == 0 || self.nesn.distance_to(self.hsnr) + 1 < self.nesn.distance_to(sn)
     }
 
     // HSNR after `sn` is held: `sn` if it starts a clock or is HSNR + 1, else unchanged.
     fn hsnr_with(self, sn: LinkNumber) -> LinkNumber
         ensures { result ≡ (hold (bare self) sn.0 0).hsnr }
     {
-        let nesn = self.nesn;
-        let hsnr = self.hsnr;
         if self.starts_clock(sn) {
             sn
-        } else if nesn.distance_to(sn) == nesn.distance_to(hsnr) + 1 {
+        } else if self.nesn.distance_to(sn) == self.nesn.distance_to(self.hsnr) + 1 {
             sn
         } else {
-            hsnr
+            self.hsnr
         }
     }
 
@@ -294,7 +265,7 @@ impl Numbers {
         ensures { result ≡ (hold (bare self) sn.0 0).clocks }
     {
         if self.starts_clock(sn) {
-            set64::with(self.clocks, sn.0)
+            wordset::with(self.clocks, sn.0)
         } else {
             self.clocks
         }
@@ -302,19 +273,15 @@ impl Numbers {
 
     // The step that holds `sn`.
     fn hold(self, sn: LinkNumber) -> Step
-        ensures { result ≡ step_by self (plain Held (hold (bare self) sn.0 0)) }
+        ensures { result ≡ step_by self (plain (Ok Held) (hold (bare self) sn.0 0)) }
     {
-        let nesn = self.nesn;
-        let hsnr = self.hsnr_with(sn);
-        let held = set64::with(self.held, sn.0);
-        let clocks = self.clocks_with(sn);
         Step {
-            outcome: Outcome::Held,
+            outcome: Ok(Outcome::Held),
             next: Numbers {
-                nesn: nesn,
-                hsnr: hsnr,
-                held: held,
-                clocks: clocks,
+                hsnr: self.hsnr_with(sn),
+                held: wordset::with(self.held, sn.0),
+                clocks: self.clocks_with(sn),
+                ..self
             },
             passed: 0,
         }
@@ -322,18 +289,17 @@ impl Numbers {
 
     // Whether an arrival of `sn` is refused: 14 if the state is not in good order, then 1 if `sn`
     // is over 63. `fits` is whether the tickets of numbers not held are all 0.
-    fn check_arrive(self, fits: bool, sn: LinkNumber) -> Verdict
+    #[tactic(auto, unfolding(crate::specs::Events::arrive_verdict))]
+    fn check_arrive(self, fits: bool, sn: LinkNumber) -> Result<(), Refusal>
         ensures { result ≡ check fits NotInOrder (arrive_verdict (bare self) sn.0) }
     {
-        if fits && self.in_order() {
-            if sn.in_field() {
-                Verdict::Done
-            } else {
-                Verdict::Refused(Refusal::OutOfRange)
-            }
-        } else {
-            Verdict::Refused(Refusal::NotInOrder)
+        if !(fits && self.in_order()) {
+            return Err(Refusal::NotInOrder);
         }
+        if !sn.in_field() {
+            return Err(Refusal::OutOfRange);
+        }
+        Ok(())
     }
 
     // The step of an arrival that is not refused.
@@ -341,15 +307,14 @@ impl Numbers {
         requires { (numbers_in_order self ≡ true) × (sn.0 < 64) }
         ensures { result ≡ step_by self (take_arrival (bare self) sn.0 0) }
     {
-        let nesn = self.nesn;
-        let d = nesn.distance_to(sn);
+        let d = self.nesn.distance_to(sn);
         if 31 < d {
-            self.stay(Outcome::Old)
-        } else if set64::member(self.held, sn.0) {
-            self.stay(Outcome::Duplicate)
+            self.stay(Ok(Outcome::Old))
+        } else if wordset::member(self.held, sn.0) {
+            self.stay(Ok(Outcome::Duplicate))
         } else if d == 0 {
-            let after = nesn.next();
-            self.pass(set64::run(self.held, after.0) + 1)
+            let after = self.nesn.next();
+            self.pass(wordset::run(self.held, after.0) + 1)
         } else {
             self.hold(sn)
         }
@@ -359,33 +324,30 @@ impl Numbers {
     // the caller, who keeps the tickets, tests this.
     pub fn arrive(self, fits: bool, sn: LinkNumber) -> Step
         ensures value { result ≡ arrive_step fits self sn.0 }
-        ensures number { outcome_number result.outcome ≡ verdict_number (check fits NotInOrder (arrive_verdict (bare self) sn.0)) }
+        ensures number { refusal_number result.outcome ≡ refusal_number (check fits NotInOrder (arrive_verdict (bare self) sn.0)) }
     {
-        let verdict = self.check_arrive(fits, sn);
-        match verdict {
-            Verdict::Done => self.take_arrival(sn),
-            Verdict::Refused(why) => self.stay(Outcome::Refused(why)),
+        match self.check_arrive(fits, sn) {
+            Ok(()) => self.take_arrival(sn),
+            Err(why) => self.stay(Err(why)),
         }
     }
 
     // Whether a clock end of `sn` is refused: 14 if the state is not in good order, then 1 if `sn`
     // is over 63, then 7 if no clock runs for it.
-    fn check_clock_end(self, fits: bool, sn: LinkNumber) -> Verdict
+    #[tactic(auto, unfolding(crate::specs::Events::clock_end_verdict))]
+    fn check_clock_end(self, fits: bool, sn: LinkNumber) -> Result<(), Refusal>
         ensures { result ≡ check fits NotInOrder (clock_end_verdict (bare self) sn.0) }
     {
-        if fits && self.in_order() {
-            if sn.in_field() {
-                if set64::member(self.clocks, sn.0) {
-                    Verdict::Done
-                } else {
-                    Verdict::Refused(Refusal::NoClock)
-                }
-            } else {
-                Verdict::Refused(Refusal::OutOfRange)
-            }
-        } else {
-            Verdict::Refused(Refusal::NotInOrder)
+        if !(fits && self.in_order()) {
+            return Err(Refusal::NotInOrder);
         }
+        if !sn.in_field() {
+            return Err(Refusal::OutOfRange);
+        }
+        if !wordset::member(self.clocks, sn.0) {
+            return Err(Refusal::NoClock);
+        }
+        Ok(())
     }
 
     // The step of a clock end that is not refused: NESN becomes the first number after `sn` that is
@@ -394,21 +356,19 @@ impl Numbers {
         requires { (numbers_in_order self ≡ true) × ((sn.0 < 64) × (member self.clocks sn.0 ≡ true)) }
         ensures { result ≡ step_by self (take_clock_end (bare self) sn.0) }
     {
-        let nesn = self.nesn;
         let after = sn.next();
-        let run = set64::run(self.held, after.0);
-        self.pass(nesn.distance_to(sn) + 1 + run)
+        let run = wordset::run(self.held, after.0);
+        self.pass(self.nesn.distance_to(sn) + 1 + run)
     }
 
     // The step of a clock end of `sn`. `fits` as for `arrive`.
     pub fn clock_end(self, fits: bool, sn: LinkNumber) -> Step
         ensures value { result ≡ clock_end_step fits self sn.0 }
-        ensures number { outcome_number result.outcome ≡ verdict_number (check fits NotInOrder (clock_end_verdict (bare self) sn.0)) }
+        ensures number { refusal_number result.outcome ≡ refusal_number (check fits NotInOrder (clock_end_verdict (bare self) sn.0)) }
     {
-        let verdict = self.check_clock_end(fits, sn);
-        match verdict {
-            Verdict::Done => self.take_clock_end(sn),
-            Verdict::Refused(why) => self.stay(Outcome::Refused(why)),
+        match self.check_clock_end(fits, sn) {
+            Ok(()) => self.take_clock_end(sn),
+            Err(why) => self.stay(Err(why)),
         }
     }
 }
@@ -431,11 +391,9 @@ impl Resequencer {
     pub fn numbers(self) -> Numbers
         ensures { result ≡ numbers_of self }
     {
-        let nesn = self.nesn;
-        let hsnr = self.hsnr;
         Numbers {
-            nesn: nesn,
-            hsnr: hsnr,
+            nesn: self.nesn,
+            hsnr: self.hsnr,
             held: self.held,
             clocks: self.clocks,
         }
@@ -446,13 +404,14 @@ impl Resequencer {
     pub fn in_order(self) -> bool
         ensures { result ≡ in_order self }
     {
-        let tickets = self.tickets;
-        tickets_in_order(self.held, &tickets) && self.numbers().in_order()
+        tickets_in_order(self.held, &self.tickets) && self.numbers().in_order()
     }
 
     // The answer that `step` gives in this state: moves the tickets. For an arrival `d` is 1, and
     // `ticket`, the packet's own, is handed on first or held at `sn`; for a clock end `d` and
-    // `ticket` are 0.
+    // `ticket` are 0. The next state is put together at the end: filled in place, its tickets are
+    // copied once more, and a line of a script takes 909 instructions instead of 803.
+    #[inline]
     fn answer(self, step: Step, d: u8, sn: LinkNumber, ticket: u16) -> Answer
         requires { StepFits self.nesn.0 step d sn.0 ticket }
         ensures { result ≡ step_answer self step d sn.0 ticket }
@@ -466,7 +425,7 @@ impl Resequencer {
         let mut out = [0u16; 32];
         let mut count: u8 = 0;
         match outcome {
-            Outcome::HandedOn => {
+            Ok(Outcome::HandedOn) => {
                 count = gather_held(
                     &mut out,
                     self.held,
@@ -478,23 +437,21 @@ impl Resequencer {
                 );
                 clear_passed(&mut tickets, start, step.passed);
             }
-            Outcome::Held => {
-                tickets[sn.0 as usize] = ticket;
-            }
-            Outcome::Old => {}
-            Outcome::Duplicate => {}
-            Outcome::Refused(_why) => {}
+            Ok(Outcome::Held) => tickets[sn.0 as usize] = ticket,
+            Ok(Outcome::Old) => {}
+            Ok(Outcome::Duplicate) => {}
+            Err(_why) => {}
         }
         Answer {
             outcome,
-            count: count,
+            count,
             tickets: out,
             next: Resequencer {
-                nesn: nesn,
-                hsnr: hsnr,
+                nesn,
+                hsnr,
                 held: next.held,
                 clocks: next.clocks,
-                tickets: tickets,
+                tickets,
             },
         }
     }
@@ -504,12 +461,10 @@ impl Resequencer {
     // good order, 1 if `sn` is over 63.
     pub fn arrive(self, sn: LinkNumber, ticket: u16) -> Answer
         ensures value { result ≡ arrive_of self sn.0 ticket }
-        ensures number { outcome_number result.outcome ≡ verdict_number (arrive_verdict self sn.0) }
+        ensures number { refusal_number result.outcome ≡ refusal_number (arrive_verdict self sn.0) }
     {
-        let tickets = self.tickets;
-        let step = self
-            .numbers()
-            .arrive(tickets_in_order(self.held, &tickets), sn);
+        let fits = tickets_in_order(self.held, &self.tickets);
+        let step = self.numbers().arrive(fits, sn);
         self.answer(step, 1, sn, ticket)
     }
 
@@ -518,12 +473,10 @@ impl Resequencer {
     // is not in good order, 1 if `sn` is over 63, 7 if no clock runs for `sn`.
     pub fn clock_end(self, sn: LinkNumber) -> Answer
         ensures value { result ≡ clock_end_of self sn.0 }
-        ensures number { outcome_number result.outcome ≡ verdict_number (clock_end_verdict self sn.0) }
+        ensures number { refusal_number result.outcome ≡ refusal_number (clock_end_verdict self sn.0) }
     {
-        let tickets = self.tickets;
-        let step = self
-            .numbers()
-            .clock_end(tickets_in_order(self.held, &tickets), sn);
+        let fits = tickets_in_order(self.held, &self.tickets);
+        let step = self.numbers().clock_end(fits, sn);
         self.answer(step, 0, sn, 0)
     }
 }

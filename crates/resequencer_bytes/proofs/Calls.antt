@@ -7,21 +7,19 @@ use mathlib.Core.Logic.{◌≢◌}
 use Prim.Native.Nat.{ℕ, ◌+◌, ◌-◌, ◌*◌, ◌%◌, ◌≤◌, ◌<◌}
 use native.Mathlib.Omega.{arith}
 use lib.Dec.{eqb, lit<}
-use lib.ListN.{length, get_or, set, take, drop, replicate, length-drop}
-use lib.Seq.{take_all, paste}
+use lib.ListN.{length, get_or, set, take, drop, replicate}
+use lib.Seq.{paste}
 use borrow.Author.Tests.{eq-eqb, ne_eqb}
 use Rattle.refusal.specs.declared.Refusal.{Refusal}
-use Rattle.refusal.specs.Numbers.{number_of}
+use Rattle.refusal.specs.Numbers.{number_of, refusal_number}
 use Rattle.refusal.proofs.Numbers.{number-range}
 use Rattle.little.specs.Little.{little_of, little_bytes, list_bytes}
 use Rattle.little.specs.Law.{Below}
 use Rattle.wordset.specs.Sets.{member, every}
 use Rattle.resequencer.specs.declared.Numbers.{Numbers}
 use Rattle.resequencer.specs.declared.Step.{Step}
-use Rattle.resequencer.specs.declared.Outcome.{Outcome}
-use Rattle.resequencer.specs.declared.Outcome.TheVariants.{Refused}
 use Rattle.resequencer.specs.State.{fresh_state, in_order}
-use Rattle.resequencer.specs.Events.{outcome_number, places, held_tickets}
+use Rattle.resequencer.specs.Events.{places, held_tickets}
 use Rattle.resequencer.specs.Parts.{ticket_fits, tickets_left, arrived_tickets, held_tickets_from}
 use Rattle.resequencer.specs.Numbers.{numbers_of, hands_on, holds, step_tickets, step_state, step_answer}
 use Rattle.resequencer.proofs.Order.{in_order_lem}
@@ -30,6 +28,8 @@ use Rattle.resequencer_bytes.specs.Stored.{state_in, state_bytes, outcome_kind, 
 use Rattle.resequencer_bytes.specs.Parts.{tickets_in, with_numbers, with_tickets}
 use Rattle.resequencer_bytes.proofs.Writing.{tickets-same, ticket-written, state-made}
 use Rattle.resequencer_bytes.proofs.Stored.{written_back}
+use Rattle.resequencer.specs.declared.Outcome.{Outcome}
+use Rattle.std.specs.Prelude.{Result, Err}
 
 -- ---- good order and the tickets in their bytes
 
@@ -55,10 +55,6 @@ module _ (b : List ℕ) (g : in_order (state_in b) ≡ true) where
           absurd (omega (arith, ((in_order_lem (state_in b) g).window 0 (lit< tt) (ap (member (state_in b).held) here ∙ e)).0))
 
 -- ---- the tickets that a step moves, for each outcome
-
--- the 128 bytes of the tickets are all bytes after the first 18
-behind : (b : List ℕ) → length b ≡ 146 → take 128 (drop 18 b) ≡ drop 18 b
-behind b l = take_all 128 (drop 18 b) (omega (arith, length-drop 18 b))
 
 abbrev pub Moved : List ℕ → Step → ℕ → ℕ → ℕ → ℕ → List ℕ → List ℕ → Type 0
 Moved b step d n ticket count out x =
@@ -119,18 +115,18 @@ numbers-same b l low = sym (state-made b b (state_in b) l (tickets-same b l low)
 abbrev pub Ends : List ℕ → Step → ℕ → ℕ → ℕ → List ℕ → ℕ → List ℕ → List ℕ → Type 0
 Ends b step d n ticket out₀ r y out =
     (r ≡ packed_answer (step_answer (state_in b) step d n ticket))
-    × ((y ≡ cond (eqb (outcome_number step.outcome) 0) (state_bytes (step_state (state_in b) step n ticket)) b)
-    × (out ≡ cond (eqb (outcome_number step.outcome) 0) (places (step_tickets (state_in b) step d ticket)) out₀))
+    × ((y ≡ cond (eqb (refusal_number step.outcome) 0) (state_bytes (step_state (state_in b) step n ticket)) b)
+    × (out ≡ cond (eqb (refusal_number step.outcome) 0) (places (step_tickets (state_in b) step d ticket)) out₀))
 
 module _ (b : List ℕ) (step : Step) (d n ticket : ℕ) (out₀ : List ℕ) (l : length b ≡ 146) where
   -- a step that is not refused: the tickets are moved and the numbers written
-  pub taken : (o : Outcome) → step.outcome ≡ o → outcome_number o ≡ 0 → (r count : ℕ) (out x y : List ℕ) → r ≡ 256 * outcome_kind o + 65536 * count
+  pub taken : (o : Result Outcome Refusal) → step.outcome ≡ o → refusal_number o ≡ 0 → (r count : ℕ) (out x y : List ℕ) → r ≡ 256 * outcome_kind o + 65536 * count
       → Moved b step d n ticket count out x → y ≡ with_numbers x step.next → Ends b step d n ticket out₀ r y out
   unfolding packed_answer step_answer step_state
   taken o e z r count out x y q moved p =
-      let number : outcome_number step.outcome ≡ 0 = ap outcome_number e ∙ z in
+      let number : refusal_number step.outcome ≡ 0 = ap refusal_number e ∙ z in
       let kind : outcome_kind step.outcome ≡ outcome_kind o = ap outcome_kind e in
-      let done : eqb (outcome_number step.outcome) 0 ≡ true = eq-eqb (outcome_number step.outcome) 0 number in (
+      let done : eqb (refusal_number step.outcome) 0 ≡ true = eq-eqb (refusal_number step.outcome) 0 number in (
         omega (arith, q, number, kind, moved.0),
         (
           p ∙ state-made b x (step_state (state_in b) step n ticket) l moved.1.1
@@ -140,19 +136,19 @@ module _ (b : List ℕ) (step : Step) (d n ticket : ℕ) (out₀ : List ℕ) (l 
       )
 
   -- a packet is dropped: only the places are written
-  pub dropped : (o : Outcome) → step.outcome ≡ o → outcome_number o ≡ 0 → hands_on o ≡ false → holds o ≡ false → step.next ≡ numbers_of (state_in b) → Below 256 b
+  pub dropped : (o : Result Outcome Refusal) → step.outcome ≡ o → refusal_number o ≡ 0 → hands_on o ≡ false → holds o ≡ false → step.next ≡ numbers_of (state_in b) → Below 256 b
       → (r : ℕ) (out : List ℕ) → r ≡ 256 * outcome_kind o → out ≡ replicate 32 0 → Ends b step d n ticket out₀ r b out
   dropped o e z h k same low r out q p =
       taken o e z r 0 out b b (omega (arith, q)) (moved_none b step d n ticket out l low (ap hands_on e ∙ h) (ap holds e ∙ k) p)
       (numbers-same b l low ∙ ap (with_numbers b) (sym same))
 
   -- a refusal returns its number and writes nothing
-  pub refused : (why : Refusal) → step.outcome ≡ Refused why → (r : ℕ) → r ≡ number_of why → Ends b step d n ticket out₀ r b out₀
+  pub refused : (why : Refusal) → step.outcome ≡ Err why → (r : ℕ) → r ≡ number_of why → Ends b step d n ticket out₀ r b out₀
   unfolding packed_answer step_answer step_tickets
   refused why e r q =
-      let f : eqb (outcome_number step.outcome) 0 ≡ false = ap (λ (o : Outcome). eqb (outcome_number o) 0) e ∙ ne_eqb (number_of why) 0 (λ (z : number_of why ≡ 0). absurd (omega (arith, (number-range why).0))) in
+      let f : eqb (refusal_number step.outcome) 0 ≡ false = ap (λ (o : Result Outcome Refusal). eqb (refusal_number o) 0) e ∙ ne_eqb (number_of why) 0 (λ (z : number_of why ≡ 0). absurd (omega (arith, (number-range why).0))) in
       let z : number_of why ≡ number_of why + 256 * 0 + 65536 * 0 = omega arith in (
-        q ∙ z ∙ ap (λ (o : Outcome). outcome_number o + 256 * outcome_kind o + 65536 * length (cond (hands_on o) (arrived_tickets d ticket ++ held_tickets (state_in b) d (step.passed - d)) [])) (sym e),
+        q ∙ z ∙ ap (λ (o : Result Outcome Refusal). refusal_number o + 256 * outcome_kind o + 65536 * length (cond (hands_on o) (arrived_tickets d ticket ++ held_tickets (state_in b) d (step.passed - d)) [])) (sym e),
         (
           ap (λ (t : Bool). cond t (state_bytes (step_state (state_in b) step n ticket)) b) (sym f),
           ap (λ (t : Bool). cond t (places (step_tickets (state_in b) step d ticket)) out₀) (sym f),
@@ -162,10 +158,10 @@ module _ (b : List ℕ) (step : Step) (d n ticket : ℕ) (out₀ : List ℕ) (l 
 -- ---- tests of the code
 
 -- the code's test of the tickets in their bytes is the test of the state's tickets
-pub stored-fit : (b : List ℕ) (held : ℕ) (fits : Bool) → length b ≡ 146 → held ≡ little_of (take 8 (drop 2 b)) → fits ≡ every 64 (ticket_fits held (tickets_in (take 128 (drop 18 b))))
+pub stored-fit : (b : List ℕ) (held : ℕ) (fits : Bool) → held ≡ little_of (take 8 (drop 2 b)) → fits ≡ every 64 (ticket_fits held (tickets_in (drop 18 b)))
     → fits ≡ every 64 (ticket_fits (state_in b).held (state_in b).tickets)
 unfolding state_in
-stored-fit b held fits l e f = f ∙ ap₂ (λ (h : ℕ) (r : List ℕ). every 64 (ticket_fits h (tickets_in r))) e (behind b l)
+stored-fit b held fits e f = f ∙ ap (λ (h : ℕ). every 64 (ticket_fits h (tickets_in (drop 18 b)))) e
 
 -- ---- good order
 

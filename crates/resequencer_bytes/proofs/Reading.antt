@@ -2,44 +2,66 @@
 -- Assumes nothing.
 use mathlib.Core.Path.{◌≡◌, refl, sym, ap, ap₂, ◌∙◌}
 use mathlib.Core.List.{List, [], ◌∷◌}
-use Prim.Native.Nat.{ℕ, suc, ◌+◌, ◌*◌, ◌<◌}
-use native.Mathlib.Numerals.{add-one}
+use Prim.Native.Nat.{ℕ, suc, ◌+◌, ◌*◌, ◌≤◌, ◌<◌}
 use native.Mathlib.Omega.{arith}
 use lib.ListN.{length, get_or, take, drop}
-use lib.Seq.{drop-cons}
-use Rattle.lists.specs.Lists.{list_from}
-use Rattle.lists.proofs.Lists.{is-from}
+use lib.Seq.{drop-drop}
+use Rattle.std.specs.Int.{w16, w64, from_le_bytes}
 use Rattle.little.specs.Little.{little_of}
-use Rattle.little.proofs.Places.{list_at}
+use Rattle.little.proofs.Places.{list_at, byte-first}
 use Rattle.sequence.specs.Numbers.{link}
 use Rattle.resequencer.specs.declared.Numbers.{Numbers}
 use Rattle.resequencer.specs.Numbers.{numbers_of}
 use Rattle.resequencer_bytes.specs.Stored.{state_in}
 use Rattle.resequencer_bytes.specs.Parts.{tickets_in}
 
--- the eight elements of a slice of eight bytes are the whole slice
-pub eight-places : (b : List ℕ) → length b ≡ 8
-    → little_of (get_or b 0 0 ∷ get_or b 1 0 ∷ get_or b 2 0 ∷ get_or b 3 0 ∷ get_or b 4 0 ∷ get_or b 5 0 ∷ get_or b 6 0 ∷ get_or b 7 0 ∷ []) ≡ little_of b
-unfolding list_from
-eight-places b e = ap little_of (sym (is-from 8 b (λ i. get_or b i 0) e (λ i h. refl)))
+-- one byte of a number, where m is the index after n
+next-byte : (k n m : ℕ) (b : List ℕ) → n < length b → m ≡ n + 1 → little_of (take (suc k) (drop n b)) ≡ get_or b n 0 + 256 * little_of (take k (drop m b))
+next-byte k n m b h e = byte-first k n b h ∙ ap (λ (j : ℕ). get_or b n 0 + 256 * little_of (take k (drop j b))) (sym e)
 
--- the ticket at index i
-pub ticket_at : List ℕ → ℕ → ℕ
-ticket_at b i = little_of (take 2 (drop (i * 2) b))
+-- no byte is left
+none-left : (b : List ℕ) → little_of (take 0 b) ≡ 0
+unfolding little_of
+none-left b = refl
 
-pub two-places : (b : List ℕ) (i : ℕ) → 2 * i + 1 < length b → little_of (get_or b (2 * i) 0 ∷ get_or b (2 * i + 1) 0 ∷ []) ≡ ticket_at b i
-unfolding ticket_at
-two-places b i h =
-    let j : i * 2 ≡ 2 * i = omega arith in
-    let k : suc (2 * i) ≡ 2 * i + 1 = sym (add-one (2 * i)) in
-    let two : take 2 (drop (2 * i) b) ≡ get_or b (2 * i) 0 ∷ get_or b (suc (2 * i)) 0 ∷ [] =
-    ap (take 2) (drop-cons b (2 * i) 0 (omega arith) ∙ ap (λ (l : List ℕ). get_or b (2 * i) 0 ∷ l) (drop-cons b (suc (2 * i)) 0 (omega arith))) in
-    sym (ap (λ (n : ℕ). little_of (take 2 (drop n b))) j ∙ ap little_of (two ∙ ap (λ (n : ℕ). get_or b (2 * i) 0 ∷ get_or b n 0 ∷ []) k))
+module _ (b : List ℕ) (at : ℕ) where
+  -- the number that two bytes encode
+  pub two-bytes : at + 2 ≤ length b → from_le_bytes w16 (get_or b at 0 ∷ get_or b (at + 1) 0 ∷ []) ≡ little_of (take 2 (drop at b))
+  two-bytes h =
+      omega (
+        arith,
+        next-byte 1 at (at + 1) b (omega arith) refl,
+        next-byte 0 (at + 1) (at + 2) b (omega arith) (omega arith),
+        none-left (drop (at + 2) b),
+      )
 
--- a ticket read from its two bytes
-pub pair-ticket : (b : List ℕ) (k r : ℕ) → length b ≡ 128 → k < 64 → r ≡ little_of (get_or b (2 * k) 0 ∷ get_or b (2 * k + 1) 0 ∷ []) → r ≡ get_or (tickets_in b) k 0
-unfolding ticket_at
-pair-ticket b k r l h e = e ∙ two-places b k (omega arith) ∙ sym (list_at 2 64 b k h)
+  -- the number that eight bytes encode
+  pub eight-bytes : at + 8 ≤ length b
+      → from_le_bytes w64 (get_or b at 0 ∷ get_or b (at + 1) 0 ∷ get_or b (at + 2) 0 ∷ get_or b (at + 3) 0 ∷ get_or b (at + 4) 0 ∷ get_or b (at + 5) 0 ∷ get_or b (at + 6) 0 ∷ get_or b (at + 7) 0 ∷ [])
+      ≡ little_of (take 8 (drop at b))
+  eight-bytes h =
+      omega (
+        arith,
+        next-byte 7 at (at + 1) b (omega arith) refl,
+        next-byte 6 (at + 1) (at + 2) b (omega arith) (omega arith),
+        next-byte 5 (at + 2) (at + 3) b (omega arith) (omega arith),
+        next-byte 4 (at + 3) (at + 4) b (omega arith) (omega arith),
+        next-byte 3 (at + 4) (at + 5) b (omega arith) (omega arith),
+        next-byte 2 (at + 5) (at + 6) b (omega arith) (omega arith),
+        next-byte 1 (at + 6) (at + 7) b (omega arith) (omega arith),
+        next-byte 0 (at + 7) (at + 8) b (omega arith) (omega arith),
+        none-left (drop (at + 8) b),
+      )
+
+-- the ticket of number n is in the two bytes at index 18 + 2 * n
+pub ticket-bytes : (b : List ℕ) (n : ℕ) → length b ≡ 146 → n < 64
+    → from_le_bytes w16 (get_or b (18 + 2 * n) 0 ∷ get_or b (18 + 2 * n + 1) 0 ∷ []) ≡ get_or (tickets_in (drop 18 b)) n 0
+ticket-bytes b n l h =
+    let e : 18 + 2 * n ≡ 18 + n * 2 = omega arith in
+    two-bytes b (18 + 2 * n) (omega arith)
+    ∙ ap (λ (j : ℕ). little_of (take 2 (drop j b))) e
+    ∙ ap (λ (r : List ℕ). little_of (take 2 r)) (sym (drop-drop (n * 2) 18 b))
+    ∙ sym (list_at 2 64 (drop 18 b) n h)
 
 -- the fields read are those of the state
 pub read-numbers : (b : List ℕ) (held clocks : ℕ) → held ≡ little_of (take 8 (drop 2 b)) → clocks ≡ little_of (take 8 (drop 10 b))

@@ -2,16 +2,15 @@
 -- Assumes nothing.
 use mathlib.Core.Path.{◌≡◌, refl, sym, ap, ap₂, ◌∙◌, subst}
 use mathlib.Core.Bool.{Bool, true, false, cond}
-use mathlib.Core.List.{List, [], ◌∷◌, ◌++◌, append_assoc, append-nil}
+use mathlib.Core.List.{List, [], ◌∷◌, ◌++◌, append_assoc}
 use Prim.Native.Nat.{ℕ, zero, suc, ◌+◌, ◌*◌, ◌%◌, ◌^◌, ◌≤◌, ◌<◌}
-use native.Mathlib.Numerals.{add-one}
 use native.Mathlib.Omega.{arith}
 use lib.Dec.{ltb, lit<}
-use lib.ListN.{length, get_or, set, take, drop, replicate, length-append, length-drop, length-replicate, get_or-replicate, take-append-drop, drop_of_length-le}
-use lib.Seq.{take_at, drop_at, take_all, length-take-le, paste, paste-zero, paste-suc}
+use lib.ListN.{length, get_or, set, take, drop, length-append, length-drop, take-append-drop}
+use lib.Seq.{take_at, drop_at, length-take-le, paste, paste-zero}
 use Rattle.little.specs.Little.{little_of, little_bytes, little_list, list_bytes}
 use Rattle.little.specs.Law.{Below}
-use Rattle.little.proofs.Little.{length-list, length-list_bytes, list-read-back, list-written-back, below-take, below-drop}
+use Rattle.little.proofs.Little.{length-list, list-read-back, list-written-back, below-take, below-drop}
 use Rattle.little.proofs.Words.{little-lt}
 use Rattle.little.proofs.Places.{list_at, paste_more, paste-behind, paste-number}
 use Rattle.resequencer.specs.declared.Resequencer.{Resequencer}
@@ -72,10 +71,6 @@ module _ (b ts : List ℕ) (l : length b ≡ 146) where
   tickets-drop : drop 18 (with_tickets b ts) ≡ list_bytes 2 ts
   unfolding with_tickets
   tickets-drop = drop_at (take 18 b) (list_bytes 2 ts) 18 front
-
-  with-tickets-length : length ts ≡ 64 → length (with_tickets b ts) ≡ 146
-  unfolding with_tickets
-  with-tickets-length e = omega (arith, length-append (take 18 b) (list_bytes 2 ts), front, length-list_bytes 2 ts)
 
   -- replacing the tickets twice
   over-tickets-by : (us : List ℕ) → with_tickets (with_tickets b ts) us ≡ with_tickets b us
@@ -156,13 +151,11 @@ module _ (b : List ℕ) (l : length b ≡ 146) (low : Below 256 b) where
         ∙ left-next nesn (tickets_in (drop 18 b)) i h
         ∙ ap (λ (n : ℕ). get_or (tickets_in (drop 18 b)) n 0) (sym q)
 
-    pub left-taken : (x : List ℕ) → x ≡ with_tickets state (set (tickets_in (drop 18 state)) number 0) → (length x ≡ 146) × (x ≡ with_tickets b (left nesn (i + 1)))
+    pub left-taken : (x : List ℕ) → x ≡ with_tickets state (set (tickets_in (drop 18 state)) number 0) → x ≡ with_tickets b (left nesn (i + 1))
     left-taken x p =
-        let y : x ≡ with_tickets b (left nesn (i + 1)) =
         p ∙ ap (λ (s : List ℕ). with_tickets s (set (tickets_in (drop 18 state)) number 0)) e
         ∙ over-tickets-by b (left nesn i) l (set (tickets_in (drop 18 state)) number 0)
-        ∙ ap (with_tickets b) (ap (λ (s : List ℕ). set s number 0) (left-read nesn i state e) ∙ left-more nesn (tickets_in (drop 18 b)) (left nesn i) i number h refl q) in
-        (ap length y ∙ with-tickets-length b (left nesn (i + 1)) l (left-long nesn (i + 1)), y)
+        ∙ ap (with_tickets b) (ap (λ (s : List ℕ). set s number 0) (left-read nesn i state e) ∙ left-more nesn (tickets_in (drop 18 b)) (left nesn i) i number h refl q)
 
 -- ---- the whole state
 
@@ -172,22 +165,3 @@ unfolding with_numbers numbers_bytes state_bytes
 state-made b x s l e =
     ap (λ (r : List ℕ). numbers_bytes (numbers_of s) ++ r) (ap (drop 18) e ∙ tickets-drop b s.tickets l)
     ∙ ap (λ (r : List ℕ). s.nesn.0 ∷ s.hsnr.0 ∷ r) (append_assoc (little_bytes 8 s.held) (little_bytes 8 s.clocks) (list_bytes 2 s.tickets))
-
--- ---- clearing n places from the front: i of them are 0 so far
-
-pub clear_next : (o x : List ℕ) (n i : ℕ) → length o ≡ n → i < n → x ≡ paste o 0 (replicate n 0) i → set x i 0 ≡ paste o 0 (replicate n 0) (i + 1)
-clear_next o x n i l h e =
-    let z : i ≡ 0 + i = omega arith in
-    let r : length (replicate {A = ℕ} n 0) ≡ n = length-replicate n 0 in
-    ap₂ (λ (y : List ℕ) (v : ℕ). set y i v) e (sym (get_or-replicate n i 0 0 h))
-    ∙ ap (λ (j : ℕ). set (paste o 0 (replicate n 0) i) j (get_or (replicate n 0) i 0)) z
-    ∙ paste-suc o 0 (replicate n 0) i 0 (omega arith) (omega arith)
-    ∙ ap (paste o 0 (replicate n 0)) (sym (add-one i))
-
-pub clear-end : (o x : List ℕ) (n i : ℕ) → length o ≡ n → i ≡ n → x ≡ paste o 0 (replicate n 0) i → x ≡ replicate n 0
-clear-end o x n i l z e =
-    let w : 0 + n ≡ n = omega arith in
-    let r : length (replicate {A = ℕ} n 0) ≡ n = length-replicate n 0 in
-    e ∙ ap (paste o 0 (replicate n 0)) z
-    ∙ ap₂ (λ (a b : List ℕ). a ++ b) (take_all n (replicate n 0) (omega arith)) (ap (λ (j : ℕ). drop j o) w ∙ drop_of_length-le o {i = n} (omega arith))
-    ∙ append-nil (replicate n 0)

@@ -30,7 +30,6 @@ with_tickets b ts = take 18 b ++ list_bytes 2 ts
 -- 0, `held` is the state's held set, and the m numbers start at distance d from NESN. d is 1 for an
 -- arrival, with its ticket, and 0 for a clock end, which has none. At most 32 numbers are passed
 pub record HandOnFits (b out : List ℕ) (held start d ticket m : ℕ) : Type 0 where
-  pub size : length b ≡ 146
   pub cleared : out ≡ replicate 32 0
   pub order : in_order (state_in b) ≡ true
   pub held-is : held ≡ (state_in b).held
@@ -43,7 +42,6 @@ pub record HandOnFits (b out : List ℕ) (held start d ticket m : ℕ) : Type 0 
 -- the step fits m. A step that hands on was made in good order, and one that neither hands on nor
 -- holds leaves the numbers unchanged
 pub record AnswerFits (b out : List ℕ) (m : Numbers) (step : Step) (d n ticket : ℕ) : Type 0 where
-  pub size : length b ≡ 146
   pub places : length out ≡ 32
   pub numbers-are : m ≡ numbers_of (state_in b)
   pub fits : StepFits m.nesn.0 step d n ticket

@@ -3,20 +3,19 @@
 -- 17 the clock set, one bit per sequence number; bytes 18 to 145 are the 64 tickets of two bytes
 -- each. In each word the lowest byte comes first. In the definitions b is the list of lent bytes.
 -- Assumes nothing.
-use Rattle.std.specs.Prelude.{Bool, cond, ◌&&◌, List, ◌∷◌, ◌++◌, ℕ, ◌+◌, ◌*◌, leb, eqb, length, get_or, take, drop}
+use Rattle.std.specs.Prelude.{Bool, cond, ◌&&◌, List, ◌∷◌, ◌++◌, ℕ, ◌+◌, ◌*◌, leb, eqb, length, get_or, take, drop, Result, Ok, Err}
 use Rattle.refusal.specs.declared.Refusal.TheVariants.{OutputTooShort, NotInOrder}
-use Rattle.refusal.specs.declared.Verdict.{Verdict}
-use Rattle.refusal.specs.declared.Verdict.TheVariants.{Done, Refused as RefusedVerdict}
-use Rattle.refusal.specs.Numbers.{number_of, check, and_then}
+use Rattle.refusal.specs.Numbers.{number_of, check, and_then, Verdict, refusal_number}
 use Rattle.lists.specs.Lists.{over}
 use Rattle.little.specs.Little.{little_of, little_bytes, little_list, list_bytes}
 use Rattle.sequence.specs.Numbers.{link}
 use Rattle.resequencer.specs.declared.Resequencer.{Resequencer}
-use Rattle.resequencer.specs.declared.Outcome.{Outcome}
-use Rattle.resequencer.specs.declared.Outcome.TheVariants.{Held, HandedOn, Old, Duplicate, Refused}
 use Rattle.resequencer.specs.declared.Answer.{Answer}
 use Rattle.resequencer.specs.State.{fresh_state, in_order}
-use Rattle.resequencer.specs.Events.{outcome_number, arrive_verdict, arrive_of, clock_end_verdict, clock_end_of}
+use Rattle.resequencer.specs.Events.{arrive_verdict, arrive_of, clock_end_verdict, clock_end_of}
+use Rattle.resequencer.specs.declared.Outcome.{Outcome}
+use Rattle.resequencer.specs.declared.Outcome.TheVariants.{Held, HandedOn, Old, Duplicate}
+use Rattle.refusal.specs.declared.Refusal.{Refusal}
 
 -- ---- the bytes of a state
 
@@ -42,17 +41,17 @@ state_bytes s = s.nesn.0 ∷ s.hsnr.0 ∷ (little_bytes 8 s.held ++ (little_byte
 
 -- the outcome as a number: 0 held, 1 handed on, 2 old, 3 duplicate; 0 for a refusal, which has its
 -- refusal number
-abbrev pub outcome_kind : Outcome → ℕ
-outcome_kind Held = 0
-outcome_kind HandedOn = 1
-outcome_kind Old = 2
-outcome_kind Duplicate = 3
-outcome_kind (Refused why) = 0
+abbrev pub outcome_kind : Result Outcome Refusal → ℕ
+outcome_kind (Ok Held) = 0
+outcome_kind (Ok HandedOn) = 1
+outcome_kind (Ok Old) = 2
+outcome_kind (Ok Duplicate) = 3
+outcome_kind (Err why) = 0
 
 -- the refusal number in the lowest byte, the outcome in the next, the count of tickets handed on
 -- above
 unfoldable pub packed_answer : Answer → ℕ
-packed_answer a = outcome_number a.outcome + 256 * outcome_kind a.outcome + 65536 * a.count
+packed_answer a = refusal_number a.outcome + 256 * outcome_kind a.outcome + 65536 * a.count
 
 -- ---- a call. `places` is the number of lent places for tickets
 
@@ -64,7 +63,7 @@ arrive_checks b places n =
     check (is_state b) NotInOrder
     (and_then (arrive_verdict (state_in b) n)
     (check (leb 32 places) OutputTooShort
-    Done))
+    (Ok tt)))
 
 -- the checks of a clock end, in the order 14, 1, 5, 7: those of an arrival, then that the clock of
 -- n runs, which is the last check of `clock_end_verdict`
@@ -74,19 +73,19 @@ clock_end_checks b places n = and_then (arrive_checks b places n) (clock_end_ver
 -- the number that a call returns, where a is the resequencer's answer: a refusal returns its number
 -- alone
 abbrev pub answer_by : Verdict → Answer → ℕ
-answer_by Done a = packed_answer a
-answer_by (RefusedVerdict why) a = number_of why
+answer_by (Ok tt) a = packed_answer a
+answer_by (Err why) a = number_of why
 
 -- the state's bytes after the call; a refusal writes nothing
 abbrev pub bytes_by : Verdict → Answer → List ℕ → List ℕ
-bytes_by Done a b = state_bytes a.next
-bytes_by (RefusedVerdict why) a b = b
+bytes_by (Ok tt) a b = state_bytes a.next
+bytes_by (Err why) a b = b
 
 -- the places for tickets after the call: the answer's 32 places are written, the unused ones with
 -- 0, and places past them keep what they held; a refusal writes nothing
 abbrev pub tickets_by : Verdict → Answer → List ℕ → List ℕ
-tickets_by Done a out = over a.tickets out
-tickets_by (RefusedVerdict why) a out = out
+tickets_by (Ok tt) a out = over a.tickets out
+tickets_by (Err why) a out = out
 
 -- ---- the arrival of number n with its ticket: the number returned, the bytes and the places for
 -- tickets afterwards

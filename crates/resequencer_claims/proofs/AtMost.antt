@@ -8,11 +8,7 @@ use Prim.Native.Nat.{ℕ, zero, suc, ◌-◌, ◌≤◌}
 use native.Mathlib.Omega.{arith}
 use lib.Dec.{ltb, eqb}
 use lib.ListN.{length, replicate, length-append}
-use Rattle.refusal.specs.declared.Verdict.{Verdict}
-use Rattle.refusal.specs.declared.Verdict.TheVariants.{Done, Refused}
 use Rattle.resequencer.specs.declared.Resequencer.{Resequencer}
-use Rattle.resequencer.specs.declared.Outcome.{Outcome}
-use Rattle.resequencer.specs.declared.Outcome.TheVariants.{Held, Old, Duplicate, Refused as NotTaken}
 use Rattle.resequencer.specs.declared.Answer.{Answer}
 use Rattle.resequencer.specs.State.{is_held, ticket_of, ahead, number_at, in_order}
 use Rattle.resequencer.specs.Events.{plain, places, hand_on, held_tickets, hold, run_after_nesn, hand_on_run, take_arrival, arrive_verdict, arrive_of, passed_by_clock, take_clock_end, clock_end_verdict, clock_end_of}
@@ -21,13 +17,18 @@ use Rattle.resequencer.proofs.Bounds.{run-after-bound, passed-bound}
 use Rattle.resequencer.proofs.Cases.{arrive-done, arrive-refused, arrive-passed, end-done, end_refused, end-passed}
 use Rattle.resequencer_claims.specs.Calls.{Call, arrival, clock_end, answer_to}
 use Rattle.resequencer_claims.specs.Wanted.{AtMost32}
+use Rattle.refusal.specs.Numbers.{Verdict}
+use Rattle.resequencer.specs.declared.Outcome.{Outcome}
+use Rattle.resequencer.specs.declared.Outcome.TheVariants.{Held, Old, Duplicate}
+use Rattle.std.specs.Prelude.{Result, Ok, Err}
+use Rattle.refusal.specs.declared.Refusal.{Refusal}
 
 -- an answer has at most 32 tickets, and a place for each
 pub record Few (a : Answer) : Type 0 where
   pub most : a.count ≤ 32
   pub room : a.count ≤ length a.tickets
 
-few-plain : (o : Outcome) (s : Resequencer) → Few (plain o s)
+few-plain : (o : Result Outcome Refusal) (s : Resequencer) → Few (plain o s)
 unfolding plain
 few-plain o s = record { most = omega arith; room = omega arith }
 
@@ -60,15 +61,15 @@ few-arrival s n ticket = go (arrive_verdict s n) refl
     taken : in_order s ≡ true → Few (take_arrival s n ticket)
     taken g =
         (unfold take_arrival in
-        few-cond (ltb 31 (ahead s n)) _ _ (few-plain Old s)
-        (few-cond (is_held s n) _ _ (few-plain Duplicate s)
-        (few-cond (eqb (ahead s n) 0) _ _ (few-run s ticket g) (few-plain Held (hold s n ticket)))))
+        few-cond (ltb 31 (ahead s n)) _ _ (few-plain (Ok Old) s)
+        (few-cond (is_held s n) _ _ (few-plain (Ok Duplicate) s)
+        (few-cond (eqb (ahead s n) 0) _ _ (few-run s ticket g) (few-plain (Ok Held) (hold s n ticket)))))
 
     go : (v : Verdict) → arrive_verdict s n ≡ v → Few (arrive_of s n ticket)
-    go Done e = subst Few (sym (arrive-done s n ticket e)) (taken (arrive-passed s n e).0)
-    go (Refused why) e = subst Few (sym (arrive-refused s n ticket why e)) (few-plain (NotTaken why) s)
+    go (Ok tt) e = subst Few (sym (arrive-done s n ticket e)) (taken (arrive-passed s n e).0)
+    go (Err why) e = subst Few (sym (arrive-refused s n ticket why e)) (few-plain (Err why) s)
 
-few-passed : (s : Resequencer) (n : ℕ) → clock_end_verdict s n ≡ Done → Few (take_clock_end s n)
+few-passed : (s : Resequencer) (n : ℕ) → clock_end_verdict s n ≡ Ok tt → Few (take_clock_end s n)
 unfolding take_clock_end
 few-passed s n e =
     let p = end-passed s n e in
@@ -78,8 +79,8 @@ few-end : (s : Resequencer) (n : ℕ) → Few (clock_end_of s n)
 few-end s n = go (clock_end_verdict s n) refl
   where
     go : (v : Verdict) → clock_end_verdict s n ≡ v → Few (clock_end_of s n)
-    go Done e = subst Few (sym (end-done s n e)) (few-passed s n e)
-    go (Refused why) e = subst Few (sym (end_refused s n why e)) (few-plain (NotTaken why) s)
+    go (Ok tt) e = subst Few (sym (end-done s n e)) (few-passed s n e)
+    go (Err why) e = subst Few (sym (end_refused s n why e)) (few-plain (Err why) s)
 
 pub few : (s : Resequencer) (c : Call) → Few (answer_to s c)
 few s (arrival sn ticket) = few-arrival s sn ticket

@@ -12,20 +12,16 @@ use lib.ListN.{length, take, drop, length-append}
 use lib.Seq.{take-append-le}
 use borrow.Author.Tests.{eq-eqb}
 use Rattle.refusal.specs.declared.Refusal.{Refusal}
-use Rattle.refusal.specs.declared.Verdict.{Verdict}
-use Rattle.refusal.specs.declared.Verdict.TheVariants.{Done, Refused as RefusedVerdict}
-use Rattle.refusal.specs.Numbers.{number_of}
+use Rattle.refusal.specs.Numbers.{number_of, Verdict, refusal_number}
 use Rattle.refusal.proofs.Numbers.{number-range}
 use Rattle.little.specs.Little.{little_bytes, list_bytes}
 use Rattle.little.proofs.Little.{length-bytes, length-list_bytes}
 use Rattle.sequence.specs.declared.LinkNumber.{LinkNumber}
 use Rattle.sequence.specs.Numbers.{link}
 use Rattle.resequencer.specs.declared.Resequencer.{Resequencer}
-use Rattle.resequencer.specs.declared.Outcome.{Outcome}
-use Rattle.resequencer.specs.declared.Outcome.TheVariants.{Held, HandedOn, Old, Duplicate, Refused}
 use Rattle.resequencer.specs.declared.Answer.{Answer}
 use Rattle.resequencer.specs.State.{fresh_state, ticket_of, ahead, number_at}
-use Rattle.resequencer.specs.Events.{outcome_number, plain, handed, arrive_verdict, arrive_of, clock_end_verdict, clock_end_of}
+use Rattle.resequencer.specs.Events.{plain, handed, arrive_verdict, arrive_of, clock_end_verdict, clock_end_of}
 use Rattle.resequencer.proofs.Order.{number_lt, number-ahead}
 use Rattle.resequencer.proofs.Cases.{arrive-refused, end_refused}
 use Rattle.resequencer_bytes.specs.Stored.{state_in, state_bytes, outcome_kind, packed_answer, arrive_checks, clock_end_checks, answer_by, bytes_by, tickets_by, fresh_bytes}
@@ -43,41 +39,44 @@ use Rattle.resequencer_claims.proofs.Answers.{handed-plain, next-plain}
 use Rattle.resequencer_claims.proofs.AtMost.{few}
 use Rattle.resequencer_claims.proofs.Steps.{fresh-stands}
 use Rattle.resequencer_claims.proofs.Demand3.{demand3, below_next, allowed-steps}
+use Rattle.resequencer.specs.declared.Outcome.{Outcome}
+use Rattle.resequencer.specs.declared.Outcome.TheVariants.{Held, HandedOn, Old, Duplicate}
+use Rattle.std.specs.Prelude.{Result, Ok, Err}
 
 -- ---- an answer in one number
 
-kind-lt : (o : Outcome) → (outcome_number o < 256) × (outcome_kind o < 256)
-kind-lt Held = (lit< tt, lit< tt)
-kind-lt HandedOn = (lit< tt, lit< tt)
-kind-lt Old = (lit< tt, lit< tt)
-kind-lt Duplicate = (lit< tt, lit< tt)
-kind-lt (Refused why) = (omega (arith, (number-range why).1), lit< tt)
+kind-lt : (o : Result Outcome Refusal) → (refusal_number o < 256) × (outcome_kind o < 256)
+kind-lt (Ok Held) = (lit< tt, lit< tt)
+kind-lt (Ok HandedOn) = (lit< tt, lit< tt)
+kind-lt (Ok Old) = (lit< tt, lit< tt)
+kind-lt (Ok Duplicate) = (lit< tt, lit< tt)
+kind-lt (Err why) = (omega (arith, (number-range why).1), lit< tt)
 
 count-back : (a : Answer) → packed_answer a / 65536 ≡ a.count
 unfolding packed_answer
 count-back a = omega (arith, (kind-lt a.outcome).0, (kind-lt a.outcome).1)
 
-number-back : (a : Answer) → packed_answer a % 256 ≡ outcome_number a.outcome
+number-back : (a : Answer) → packed_answer a % 256 ≡ refusal_number a.outcome
 unfolding packed_answer
 number-back a = omega (arith, (kind-lt a.outcome).0)
 
-refused-is : (o : Outcome) → outcome_number o ≢ 0 → (why : Refusal) × (o ≡ Refused why)
-refused-is Held h = absurd (h refl)
-refused-is HandedOn h = absurd (h refl)
-refused-is Old h = absurd (h refl)
-refused-is Duplicate h = absurd (h refl)
-refused-is (Refused why) h = (why, refl)
+refused-is : (o : Result Outcome Refusal) → refusal_number o ≢ 0 → (why : Refusal) × (o ≡ Err why)
+refused-is (Ok Held) h = absurd (h refl)
+refused-is (Ok HandedOn) h = absurd (h refl)
+refused-is (Ok Old) h = absurd (h refl)
+refused-is (Ok Duplicate) h = absurd (h refl)
+refused-is (Err why) h = (why, refl)
 
 -- ---- a call on the bytes b, by the verdict v of its checks, where a is the answer by value: it
 -- returns the refusal number, leaves the bytes of the next state, and hands on the same tickets
 
 abbrev Tells : Verdict → Answer → List ℕ → List ℕ → Type 0
 Tells v a b out =
-    (answer_by v a % 256 ≡ outcome_number a.outcome)
+    (answer_by v a % 256 ≡ refusal_number a.outcome)
     × (bytes_by v a b ≡ state_bytes a.next)
     × (take (answer_by v a / 65536) (tickets_by v a out) ≡ handed a)
 
-done-tells : (a : Answer) (b out : List ℕ) → a.count ≤ length a.tickets → Tells Done a b out
+done-tells : (a : Answer) (b out : List ℕ) → a.count ≤ length a.tickets → Tells (Ok tt) a b out
 unfolding handed
 done-tells a b out room = (
   number-back a,
@@ -86,19 +85,19 @@ done-tells a b out room = (
       ∙ take-append-le a.count a.tickets (drop (length a.tickets) out) room,
 )
 
-refused-tells : (why : Refusal) (s : Resequencer) (out : List ℕ) → Tells (RefusedVerdict why) (plain (Refused why) s) (state_bytes s) out
+refused-tells : (why : Refusal) (s : Resequencer) (out : List ℕ) → Tells (Err why) (plain (Err why) s) (state_bytes s) out
 refused-tells why s out =
     let small : number_of why % 256 ≡ number_of why = omega (arith, (number-range why).1) in
     let none : number_of why / 65536 ≡ 0 = omega (arith, (number-range why).1) in (
       small ∙ (unfold plain in refl),
-      ap state_bytes (sym (next-plain (Refused why) s)),
-      ap (λ (n : ℕ). take n out) none ∙ sym (handed-plain (Refused why) s),
+      ap state_bytes (sym (next-plain (Err why) s)),
+      ap (λ (n : ℕ). take n out) none ∙ sym (handed-plain (Err why) s),
     )
 
 -- ---- one call on the bytes of a state, with 32 places or more
 
 record Goes (s : Resequencer) (out : List ℕ) (c : Call) : Type 0 where
-  refusal : number_from (state_bytes s) out c % 256 ≡ outcome_number (answer_to s c).outcome
+  refusal : number_from (state_bytes s) out c % 256 ≡ refusal_number (answer_to s c).outcome
   then : bytes_after (state_bytes s) out c ≡ state_bytes (answer_to s c).next
   hands : handed_from (state_bytes s) out c ≡ handed (answer_to s c)
 
@@ -129,18 +128,18 @@ module _ (s : Resequencer) (out : List ℕ) (f : FitsTypes s) (long : 32 ≤ len
       sym (end-roomy (state_bytes s) (length out) n (state-length s f) long) ∙ ap (λ (x : Resequencer). clock_end_verdict x n) read_back
 
   arrival-tells : (n ticket : ℕ) (v : Verdict) → arrive_verdict s n ≡ v → Tells v (arrive_of s n ticket) (state_bytes s) out
-  arrival-tells n ticket Done e = done-tells (arrive_of s n ticket) (state_bytes s) out (few s (arrival n ticket)).room
-  arrival-tells n ticket (RefusedVerdict why) e =
-      subst (λ (a : Answer). Tells (RefusedVerdict why) a (state_bytes s) out) (sym (arrive-refused s n ticket why e)) (refused-tells why s out)
+  arrival-tells n ticket (Ok tt) e = done-tells (arrive_of s n ticket) (state_bytes s) out (few s (arrival n ticket)).room
+  arrival-tells n ticket (Err why) e =
+      subst (λ (a : Answer). Tells (Err why) a (state_bytes s) out) (sym (arrive-refused s n ticket why e)) (refused-tells why s out)
 
   clock-tells : (n : ℕ) (v : Verdict) → clock_end_verdict s n ≡ v → Tells v (clock_end_of s n) (state_bytes s) out
-  clock-tells n Done e = done-tells (clock_end_of s n) (state_bytes s) out (few s (end_of_clock n)).room
-  clock-tells n (RefusedVerdict why) e =
-      subst (λ (a : Answer). Tells (RefusedVerdict why) a (state_bytes s) out) (sym (end_refused s n why e)) (refused-tells why s out)
+  clock-tells n (Ok tt) e = done-tells (clock_end_of s n) (state_bytes s) out (few s (end_of_clock n)).room
+  clock-tells n (Err why) e =
+      subst (λ (a : Answer). Tells (Err why) a (state_bytes s) out) (sym (end_refused s n why e)) (refused-tells why s out)
 
   -- what the bytes tell is what the state does
   told : (v w : Verdict) (a c : Answer) → w ≡ v → c ≡ a → Tells v a (state_bytes s) out
-      → (answer_by w c % 256 ≡ outcome_number a.outcome) × (bytes_by w c (state_bytes s) ≡ state_bytes a.next)
+      → (answer_by w c % 256 ≡ refusal_number a.outcome) × (bytes_by w c (state_bytes s) ≡ state_bytes a.next)
       × (take (answer_by w c / 65536) (tickets_by w c out) ≡ handed a)
   told v w a c p q t = (
     ap₂ (λ (x : Verdict) (y : Answer). answer_by x y % 256) p q ∙ t.0,

@@ -16,8 +16,6 @@ use Rattle.refusal.specs.declared.Refusal.TheVariants.{OutOfRange}
 use Rattle.wordset.specs.Sets.{digit, how_many, count}
 use Rattle.wordset.proofs.Counts.{how_many-ext, how_many-none, how_many-split, how_many-with, how_many-turn}
 use Rattle.resequencer.specs.declared.Resequencer.{Resequencer}
-use Rattle.resequencer.specs.declared.Outcome.{Outcome}
-use Rattle.resequencer.specs.declared.Outcome.TheVariants.{Held, Old, Duplicate, Refused}
 use Rattle.resequencer.specs.declared.Answer.{Answer}
 use Rattle.resequencer.specs.State.{fresh_state, is_held, ahead, in_order}
 use Rattle.resequencer.specs.Events.{plain, hand_on, advance, held_tickets, hold, arrive_of}
@@ -32,6 +30,10 @@ use Rattle.resequencer_claims.proofs.Advancing.{advance-sized, advance-in-order}
 use Rattle.resequencer_claims.proofs.Runs.{run-passes, clock-passes}
 use Rattle.resequencer_claims.proofs.Answers.{next-plain, next-hand_on, arrive-stray, arrive-old, arrive-duplicate, arrive-expected, arrive-early, ClockCases, clock-cases, hand_on-says}
 use Rattle.resequencer_claims.proofs.Steps.{fresh-stands}
+use Rattle.resequencer.specs.declared.Outcome.{Outcome}
+use Rattle.resequencer.specs.declared.Outcome.TheVariants.{Held, Old, Duplicate}
+use Rattle.std.specs.Prelude.{Result, Ok, Err}
+use Rattle.refusal.specs.declared.Refusal.{Refusal}
 
 -- ---- counts by distance
 
@@ -86,7 +88,7 @@ module _ (s : Resequencer) (k : Kept s) where
   good = good-order s k.order
 
   -- an answer that hands nothing on and leaves the state unchanged
-  leaves : (c : Call) (o : Outcome) → answer_to s c ≡ plain o s → takes s c ≡ 0 → CallKeeps s c
+  leaves : (c : Call) (o : Result Outcome Refusal) → answer_to s c ≡ plain o s → takes s c ≡ 0 → CallKeeps s c
   leaves c o q t = record {
     kept = subst Kept (sym (ap (λ (a : Answer). a.next) q ∙ next-plain o s)) k;
     balance = ap₂ ◌+◌ (t ∙ sym (ap (λ (a : Answer). a.count) q ∙ no-tickets)) (ap (λ (x : Resequencer). count 64 x.held) (sym (ap (λ (a : Answer). a.next) q ∙ next-plain o s)));
@@ -116,36 +118,36 @@ module _ (s : Resequencer) (k : Kept s) where
 
   -- ---- arrivals
 
-  outcome-of : (c : Call) (o : Outcome) (then : Resequencer) → answer_to s c ≡ plain o then → (answer_to s c).outcome ≡ o
+  outcome-of : (c : Call) (o : Result Outcome Refusal) (then : Resequencer) → answer_to s c ≡ plain o then → (answer_to s c).outcome ≡ o
   unfolding plain
   outcome-of c o then q = ap (λ (a : Answer). a.outcome) q
 
   keeps-stray : (sn ticket : ℕ) → 64 ≤ sn → CallKeeps s (arrival sn ticket)
   keeps-stray sn ticket h =
       let q = arrive-stray s sn ticket good h in
-      leaves (arrival sn ticket) (Refused OutOfRange) q (ap is_taken (outcome-of (arrival sn ticket) (Refused OutOfRange) s q))
+      leaves (arrival sn ticket) (Err OutOfRange) q (ap is_taken (outcome-of (arrival sn ticket) (Err OutOfRange) s q))
 
   keeps-old : (sn ticket : ℕ) → sn < 64 → 31 < ahead s sn → CallKeeps s (arrival sn ticket)
   keeps-old sn ticket l h =
       let q = arrive-old s sn ticket good l h in
-      leaves (arrival sn ticket) Old q (ap is_taken (outcome-of (arrival sn ticket) Old s q))
+      leaves (arrival sn ticket) (Ok Old) q (ap is_taken (outcome-of (arrival sn ticket) (Ok Old) s q))
 
   keeps-duplicate : (sn ticket : ℕ) → sn < 64 → ahead s sn ≤ 31 → is_held s sn ≡ true → CallKeeps s (arrival sn ticket)
   keeps-duplicate sn ticket l h e =
       let q = arrive-duplicate s sn ticket good l h e in
-      leaves (arrival sn ticket) Duplicate q (ap is_taken (outcome-of (arrival sn ticket) Duplicate s q))
+      leaves (arrival sn ticket) (Ok Duplicate) q (ap is_taken (outcome-of (arrival sn ticket) (Ok Duplicate) s q))
 
   keeps-early : (sn ticket : ℕ) → sn < 64 → 1 ≤ ahead s sn → ahead s sn ≤ 31 → is_held s sn ≡ false → CallKeeps s (arrival sn ticket)
   keeps-early sn ticket l b h e =
       let q = arrive-early s sn ticket good l b h e in
-      let there : (arrive_of s sn ticket).next ≡ hold s sn ticket = ap (λ (a : Answer). a.next) q ∙ next-plain Held (hold s sn ticket) in
+      let there : (arrive_of s sn ticket).next ≡ hold s sn ticket = ap (λ (a : Answer). a.next) q ∙ next-plain (Ok Held) (hold s sn ticket) in
       record {
         kept = subst Kept (sym there) (record {
           sized = hold-sized s sn ticket k.sized k.order l b h e;
           order = hold-in-order s sn ticket k.sized k.order l b h e;
         });
         balance =
-            ap (λ (x : ℕ). x + count 64 s.held) (ap is_taken (outcome-of (arrival sn ticket) Held (hold s sn ticket) q))
+            ap (λ (x : ℕ). x + count 64 s.held) (ap is_taken (outcome-of (arrival sn ticket) (Ok Held) (hold s sn ticket) q))
             ∙ swap (count 64 s.held) ∙ sym (count-hold s sn ticket l e) ∙ plus (count 64 (hold s sn ticket).held)
             ∙ ap₂ (λ (x : ℕ) (y : Resequencer). x + count 64 y.held) (sym (ap (λ (a : Answer). a.count) q ∙ no-tickets)) (sym there);
       }
@@ -156,7 +158,7 @@ module _ (s : Resequencer) (k : Kept s) where
       plus : (x : ℕ) → x ≡ 0 + x
       plus x = omega arith
 
-      no-tickets : (plain Held (hold s sn ticket)).count ≡ 0
+      no-tickets : (plain (Ok Held) (hold s sn ticket)).count ≡ 0
       no-tickets = unfold plain in refl
 
   keeps-expected : (sn ticket : ℕ) → sn < 64 → ahead s sn ≡ 0 → is_held s sn ≡ false → CallKeeps s (arrival sn ticket)
@@ -201,7 +203,7 @@ module _ (s : Resequencer) (k : Kept s) where
           let m : ℕ = suc c.distance + c.length in
           passes (clock_end sn) (held_tickets s 0 m) m (w.2 ∙ c.taken) (omega arith) c.run_is.most c.run_is.stop
           (tickets-count s 0 m ∙ how_many-ext m (λ j. held_at s (0 + j)) (held_at s) (λ j h. ap (held_at s) (plus j)) ∙ sym (plus (how_many m (held_at s))))
-      go (inr w) = leaves (clock_end sn) (Refused w.0) w.1 refl
+      go (inr w) = leaves (clock_end sn) (Err w.0) w.1 refl
 
   pub keeps : (c : Call) → CallKeeps s c
   keeps (arrival sn ticket) = keeps-arrival sn ticket

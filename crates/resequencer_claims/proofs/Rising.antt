@@ -11,7 +11,6 @@ use Prim.Native.Nat.{ℕ, zero, suc, ◌+◌, ◌%◌, ◌≤◌, ◌<◌}
 use native.Mathlib.Decide.{dec_lt}
 use native.Mathlib.Omega.{arith}
 use Rattle.resequencer.specs.declared.Resequencer.{Resequencer}
-use Rattle.resequencer.specs.declared.Outcome.TheVariants.{HandedOn, Refused}
 use Rattle.resequencer.specs.State.{fresh_state, in_order}
 use Rattle.resequencer.specs.Events.{handed}
 use Rattle.resequencer_claims.specs.Events.{Event, packet, stray, clock_end, call_of, answer, handed_on, nothing, more, arrived_after}
@@ -23,6 +22,8 @@ use Rattle.resequencer_claims.proofs.Steps.{Steps, stray-steps, refused-steps, c
 use Rattle.resequencer_claims.proofs.Demand3.{more-keeps}
 use Rattle.resequencer_claims.proofs.Keeping.{Kept, good as order-kept, keeps, fresh_kept}
 use Rattle.resequencer_claims.proofs.Twins.{Twins, self-twins, arrive-like, clock-like, outcome-like, clocks-like}
+use Rattle.resequencer.specs.declared.Outcome.TheVariants.{HandedOn}
+use Rattle.std.specs.Prelude.{Ok, Err}
 
 -- ---- lists of numbers that strictly rise and have arrived
 
@@ -135,7 +136,7 @@ module _ (T : ℕ → ℕ) {E : ℕ} {has : ℕ → Bool} {s u : Resequencer} (k
             any = v.0;
             same_next = one-missing (more has (clock_end sn)) (suc w.1) v.0.next w.0.next (subst (λ (x : ℕ). FirstMissing (more has (clock_end sn)) (suc x) v.0.next) (sym q) v.5) w.5;
             told = (
-              (λ why r. let x : HandedOn ≡ Refused why = sym (clock-taken-says s sn a.2) ∙ r in let z : ◌≡◌ {A = ℕ} 0 1 = cc in absurd (omega arith)),
+              (λ why r. let x : (Ok HandedOn) ≡ Err why = sym (clock-taken-says s sn a.2) ∙ r in let z : ◌≡◌ {A = ℕ} 0 1 = cc in absurd (omega arith)),
               (λ r. (w.1, w.2, w.3, w.4, w.5)),
             );
           }
@@ -148,11 +149,11 @@ module _ (T : ℕ → ℕ) {E : ℕ} {has : ℕ → Bool} {s u : Resequencer} (k
             same_next = v.1 ∙ sym w.1;
             told = (
               (λ why r. w.1),
-              (λ r. let x : Refused a.0 ≡ HandedOn = sym (clock-refused-says s sn a.0 a.1) ∙ r in let z : ◌≡◌ {A = ℕ} 0 1 = cc in absurd (omega arith)),
+              (λ r. let x : Err a.0 ≡ Ok HandedOn = sym (clock-refused-says s sn a.0 a.1) ∙ r in let z : ◌≡◌ {A = ℕ} 0 1 = cc in absurd (omega arith)),
             );
           }
       go (inr a) (inl b) =
-          let x : Refused a.0 ≡ HandedOn =
+          let x : Err a.0 ≡ Ok HandedOn =
           sym (clock-refused-says s sn a.0 a.1)
           ∙ clock-taken-says s sn (clock-taken s sn good b.0 (sym (clocks-like s u t sn) ∙ b.1)) in
           let z : ◌≡◌ {A = ℕ} 0 1 = cc in

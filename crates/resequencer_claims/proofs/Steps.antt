@@ -17,8 +17,6 @@ use borrow.Author.Tests.{eq-eqb, ne_eqb, eqb-true}
 use Rattle.refusal.specs.declared.Refusal.{Refusal}
 use Rattle.refusal.specs.declared.Refusal.TheVariants.{OutOfRange}
 use Rattle.resequencer.specs.declared.Resequencer.{Resequencer}
-use Rattle.resequencer.specs.declared.Outcome.{Outcome}
-use Rattle.resequencer.specs.declared.Outcome.TheVariants.{Held, Old, Duplicate, Refused}
 use Rattle.resequencer.specs.declared.Answer.{Answer}
 use Rattle.wordset.proofs.Sets.{member-none}
 use Rattle.resequencer.specs.State.{fresh_state, is_held, has_clock, ahead, number_at, in_order}
@@ -31,6 +29,9 @@ use Rattle.resequencer_claims.proofs.Order.{good-order, never}
 use Rattle.resequencer_claims.proofs.Runs.{RunFrom, run-passes, clock-passes}
 use Rattle.resequencer_claims.proofs.Standing.{arrived_from, arrived_from-ext, Stands, stands-ext, expected, ahead-is, hold-stands, advance-stands, tickets-passed}
 use Rattle.resequencer_claims.proofs.Answers.{handed-plain, handed-hand_on, next-plain, next-hand_on, arrive-stray, arrive-old, arrive-duplicate, arrive-expected, arrive-early}
+use Rattle.resequencer.specs.declared.Outcome.{Outcome}
+use Rattle.resequencer.specs.declared.Outcome.TheVariants.{Held, Old, Duplicate}
+use Rattle.std.specs.Prelude.{Result, Ok, Err}
 
 pub record Steps (T : ℕ → ℕ) (E : ℕ) (has : ℕ → Bool) (s : Resequencer) (e : Event) : Type 0 where
   pub passed : ℕ
@@ -48,7 +49,7 @@ module _ {T : ℕ → ℕ} {E : ℕ} {has : ℕ → Bool} {s : Resequencer} (k :
   unfolding arrived_from
   none now = refl
 
-  abbrev stay : (e : Event) (o : Outcome) (then : Resequencer) → answer T s e ≡ plain o then → Stands T E (more has e) then → Steps T E has s e
+  abbrev stay : (e : Event) (o : Result Outcome Refusal) (then : Resequencer) → answer T s e ≡ plain o then → Stands T E (more has e) then → Steps T E has s e
   stay e o then q h = record {
     passed = 0;
     next = E;
@@ -76,14 +77,14 @@ module _ {T : ℕ → ℕ} {E : ℕ} {has : ℕ → Bool} {s : Resequencer} (k :
 
   pub stray-steps : (sn ticket : ℕ) → 63 < sn → (w : Steps T E has s (stray sn ticket)) × (w.next ≡ E)
   stray-steps sn ticket h = (
-    stay (stray sn ticket) (Refused OutOfRange) s (arrive-stray s sn ticket good (omega arith))
+    stay (stray sn ticket) (Err OutOfRange) s (arrive-stray s sn ticket good (omega arith))
         (stands-ext (λ n l. nothing-new (stray sn ticket) (λ m. refl) n) k),
     refl,
   )
 
-  pub refused-steps : (sn : ℕ) (why : Refusal) → clock_end_of s sn ≡ plain (Refused why) s → (w : Steps T E has s (clock_end sn)) × (w.next ≡ E)
+  pub refused-steps : (sn : ℕ) (why : Refusal) → clock_end_of s sn ≡ plain (Err why) s → (w : Steps T E has s (clock_end sn)) × (w.next ≡ E)
   refused-steps sn why q = (
-    stay (clock_end sn) (Refused why) s q (stands-ext (λ n l. nothing-new (clock_end sn) (λ m. refl) n) k),
+    stay (clock_end sn) (Err why) s q (stands-ext (λ n l. nothing-new (clock_end sn) (λ m. refl) n) k),
     refl,
   )
 
@@ -179,7 +180,7 @@ module _ {T : ℕ → ℕ} {E : ℕ} {has : ℕ → Bool} {s : Resequencer} (k :
       let behind : ahead s (n % 64) ≡ n + 64 - E =
       ap (λ (x : ℕ). ahead s x) (sym (add-mod_right n 64) ∙ ap (λ (x : ℕ). x % 64) (omega arith)) ∙ ahead-is k (n + 64 - E) (omega arith) in
       stays n
-      (stay (packet n) Old s (arrive-old s (n % 64) (T n) good (mod-lt n (lit< tt)) (omega arith))
+      (stay (packet n) (Ok Old) s (arrive-old s (n % 64) (T n) good (mod-lt n (lit< tt)) (omega arith))
       (stands-ext (λ m b. ap (λ (x : Bool). has m || x) (ne_eqb n m (λ q. omega arith)) ∙ or-false (has m)) k))
       refl
 
@@ -204,12 +205,12 @@ module _ {T : ℕ → ℕ} {E : ℕ} {has : ℕ → Bool} {s : Resequencer} (k :
       go : (b : Bool) → has (E + d) ≡ b → (w : Steps T E has s (packet (E + d))) × FirstMissing (more has (packet (E + d))) E w.next
       go true e =
           stays (E + d)
-          (stay (packet (E + d)) Duplicate s (arrive-duplicate s ((E + d) % 64) (T (E + d)) good (mod-lt (E + d) (lit< tt)) (omega (arith, at)) (place ∙ e))
+          (stay (packet (E + d)) (Ok Duplicate) s (arrive-duplicate s ((E + d) % 64) (T (E + d)) good (mod-lt (E + d) (lit< tt)) (omega (arith, at)) (place ∙ e))
           (stands-ext (λ m b. known e m) k))
           refl
       go false e =
           stays (E + d)
-          (stay (packet (E + d)) Held (hold s ((E + d) % 64) (T (E + d)))
+          (stay (packet (E + d)) (Ok Held) (hold s ((E + d) % 64) (T (E + d)))
           (arrive-early s ((E + d) % 64) (T (E + d)) good (mod-lt (E + d) (lit< tt)) (omega (arith, at)) (omega (arith, at)) (place ∙ e))
           (hold-stands k (more has (packet (E + d))) d l h e (λ m. refl)))
           refl

@@ -8,17 +8,17 @@ use Prim.Native.Nat.{ℕ}
 use lib.Dec.{eqb, ltb}
 use lib.ListN.{set}
 use Rattle.refusal.specs.declared.Refusal.TheVariants.{OutOfRange, NoClock}
-use Rattle.refusal.specs.declared.Verdict.{Verdict}
-use Rattle.refusal.specs.declared.Verdict.TheVariants.{Done, Refused}
-use Rattle.refusal.specs.Numbers.{check}
+use Rattle.refusal.specs.Numbers.{check, Verdict}
 use Rattle.sequence.specs.Numbers.{in_field}
 use Rattle.resequencer.specs.declared.Resequencer.{Resequencer}
-use Rattle.resequencer.specs.declared.Outcome.{Outcome}
-use Rattle.resequencer.specs.declared.Outcome.TheVariants.{Held, Old, Duplicate, Refused as NotTaken}
 use Rattle.resequencer.specs.declared.Answer.{Answer}
 use Rattle.resequencer.specs.State.{is_held, has_clock, ahead, in_order}
 use Rattle.resequencer.specs.Events.{plain, hand_on, remaining, advance, starts_clock, hold, run_after_nesn, hand_on_run, take_arrival, arrive_verdict, arrive_by, arrive_of, passed_by_clock, take_clock_end, clock_end_verdict, clock_end_by, clock_end_of}
 use Rattle.resequencer_claims.proofs.Answers.{next-plain, next-hand_on}
+use Rattle.resequencer.specs.declared.Outcome.{Outcome}
+use Rattle.resequencer.specs.declared.Outcome.TheVariants.{Held, Old, Duplicate}
+use Rattle.std.specs.Prelude.{Result, Ok, Err}
+use Rattle.refusal.specs.declared.Refusal.{Refusal}
 
 -- the state with other tickets
 abbrev pub retag : Resequencer → List ℕ → Resequencer
@@ -46,7 +46,7 @@ advance-twins s ts m = record { tags = (advance (retag s ts) m).tickets; same = 
 abbrev NextTwins : Answer → Answer → Type 0
 NextTwins a b = Twins a.next b.next
 
-plain-twins : (o p : Outcome) (s u : Resequencer) → Twins s u → NextTwins (plain o s) (plain p u)
+plain-twins : (o p : (Result Outcome Refusal)) (s u : Resequencer) → Twins s u → NextTwins (plain o s) (plain p u)
 plain-twins o p s u t = record { tags = t.tags; same = next-plain p u ∙ t.same ∙ ap (λ (x : Resequencer). retag x t.tags) (sym (next-plain o s)) }
 
 hand_on-twins : (l k : List ℕ) (s u : Resequencer) → Twins s u → NextTwins (hand_on l s) (hand_on k u)
@@ -67,10 +67,10 @@ module _ (s : Resequencer) (ts : List ℕ) where
   take-twins : (n t x : ℕ) → NextTwins (take_arrival s n t) (take_arrival (retag s ts) n x)
   unfolding take_arrival
   take-twins n t x =
-      cond-twins (ltb 31 (ahead s n)) _ _ _ _ (plain-twins Old Old s (retag s ts) same-sets)
-      (cond-twins (is_held s n) _ _ _ _ (plain-twins Duplicate Duplicate s (retag s ts) same-sets)
+      cond-twins (ltb 31 (ahead s n)) _ _ _ _ (plain-twins (Ok Old) (Ok Old) s (retag s ts) same-sets)
+      (cond-twins (is_held s n) _ _ _ _ (plain-twins (Ok Duplicate) (Ok Duplicate) s (retag s ts) same-sets)
       (cond-twins (eqb (ahead s n) 0) _ _ _ _ (run-twins t x)
-      (plain-twins Held Held (hold s n t) (hold (retag s ts) n x) (hold-twins s ts n t x))))
+      (plain-twins (Ok Held) (Ok Held) (hold s n t) (hold (retag s ts) n x) (hold-twins s ts n t x))))
 
   clock-twins : (n : ℕ) → NextTwins (take_clock_end s n) (take_clock_end (retag s ts) n)
   unfolding take_clock_end passed_by_clock
@@ -79,27 +79,27 @@ module _ (s : Resequencer) (ts : List ℕ) where
   module _ (g : in_order s ≡ true) (h : in_order (retag s ts) ≡ true) where
     arrive-twins : (n t x : ℕ) → NextTwins (arrive_of s n t) (arrive_of (retag s ts) n x)
     unfolding arrive_of arrive_verdict
-    arrive-twins n t x = rw (g, h) (go (check (in_field 64 n) OutOfRange Done))
+    arrive-twins n t x = rw (g, h) (go (check (in_field 64 n) OutOfRange (Ok tt)))
       where
         go : (v : Verdict) → NextTwins (arrive_by v s n t) (arrive_by v (retag s ts) n x)
-        go Done = take-twins n t x
-        go (Refused why) = plain-twins (NotTaken why) (NotTaken why) s (retag s ts) same-sets
+        go (Ok tt) = take-twins n t x
+        go (Err why) = plain-twins (Err why) (Err why) s (retag s ts) same-sets
 
     clock-end-twins : (n : ℕ) → NextTwins (clock_end_of s n) (clock_end_of (retag s ts) n)
     unfolding clock_end_of clock_end_verdict
-    clock-end-twins n = rw (g, h) (go (check (in_field 64 n) OutOfRange (check (has_clock s n) NoClock Done)))
+    clock-end-twins n = rw (g, h) (go (check (in_field 64 n) OutOfRange (check (has_clock s n) NoClock (Ok tt))))
       where
         go : (v : Verdict) → NextTwins (clock_end_by v s n) (clock_end_by v (retag s ts) n)
-        go Done = clock-twins n
-        go (Refused why) = plain-twins (NotTaken why) (NotTaken why) s (retag s ts) same-sets
+        go (Ok tt) = clock-twins n
+        go (Err why) = plain-twins (Err why) (Err why) s (retag s ts) same-sets
 
     same_outcome : (n : ℕ) → (clock_end_of s n).outcome ≡ (clock_end_of (retag s ts) n).outcome
     unfolding clock_end_of clock_end_verdict take_clock_end hand_on plain
-    same_outcome n = rw (g, h) (go (check (in_field 64 n) OutOfRange (check (has_clock s n) NoClock Done)))
+    same_outcome n = rw (g, h) (go (check (in_field 64 n) OutOfRange (check (has_clock s n) NoClock (Ok tt))))
       where
         go : (v : Verdict) → (clock_end_by v s n).outcome ≡ (clock_end_by v (retag s ts) n).outcome
-        go Done = refl
-        go (Refused why) = refl
+        go (Ok tt) = refl
+        go (Err why) = refl
 
 -- ---- for any twins in good order
 

@@ -17,7 +17,6 @@ use Rattle.wordset.proofs.Sets.{member-none}
 use Rattle.wordset.proofs.Masks.{empty}
 use Rattle.wordset.proofs.Counts.{how_many-none, how_many-split, how_many-apart, how_many-turn}
 use Rattle.resequencer.specs.declared.Resequencer.{Resequencer}
-use Rattle.resequencer.specs.declared.Outcome.TheVariants.{Refused}
 use Rattle.resequencer.specs.declared.Answer.{Answer}
 use Rattle.resequencer.specs.State.{fresh_state, is_held, has_clock, ahead, number_at, in_order}
 use Rattle.resequencer.specs.Events.{hand_on, is_passed, remaining, advance, passed_by_clock, take_clock_end, clock_end_of}
@@ -29,6 +28,7 @@ use Rattle.resequencer_claims.proofs.Meeting.{meets-some}
 use Rattle.resequencer_claims.proofs.Answers.{next-plain, ClockCases, clock-cases, clock-taken}
 use Rattle.resequencer_claims.proofs.Keeping.{Kept, keeps, fresh_kept}
 use Rattle.resequencer_claims.proofs.AtMost.{at-most-32}
+use Rattle.std.specs.Prelude.{Err}
 
 -- ---- clocks
 
@@ -96,7 +96,7 @@ fewer s sn n l h = go (clock-cases s sn)
         (both_true (has_clock s n) _
         (sym (remaining-member s (passed_by_clock s sn) s.clocks n l) ∙ sym (ap (λ (a : Answer). has_clock a.next n) w.2 ∙ clocks-then s sn n) ∙ h)
         ).0
-    go (inr w) = sym (ap (λ (a : Answer). has_clock a.next n) w.1 ∙ ap (λ (x : Resequencer). has_clock x n) (next-plain (Refused w.0) s)) ∙ h
+    go (inr w) = sym (ap (λ (a : Answer). has_clock a.next n) w.1 ∙ ap (λ (x : Resequencer). has_clock x n) (next-plain (Err w.0) s)) ∙ h
 
 -- a clock that has ended does not run
 ended : (s : Resequencer) (n : ℕ) → in_order s ≡ true → n < 64 → has_clock (clock_end_of s n).next n ≡ false
@@ -108,7 +108,7 @@ ended s n g l = go (has_clock s n) refl
     stays : ClockCases s n
         → has_clock s n ≡ false → has_clock (clock_end_of s n).next n ≡ false
     stays (inl w) e = never (sym w.1 ∙ e)
-    stays (inr w) e = ap (λ (a : Answer). has_clock a.next n) w.1 ∙ ap (λ (x : Resequencer). has_clock x n) (next-plain (Refused w.0) s) ∙ e
+    stays (inr w) e = ap (λ (a : Answer). has_clock a.next n) w.1 ∙ ap (λ (x : Resequencer). has_clock x n) (next-plain (Err w.0) s) ∙ e
 
     go : (b : Bool) → has_clock s n ≡ b → has_clock (clock_end_of s n).next n ≡ false
     go true e =

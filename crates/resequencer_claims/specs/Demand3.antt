@@ -2,10 +2,9 @@
 -- is one claim about the whole list"). The quotes are from the demand. proofs/Demand3.antt proves
 -- `Demand3 T` for every T, the tickets "chosen at will, equal ones allowed".
 -- Assumes nothing.
-use Rattle.std.specs.Prelude.{◌≡◌, Bool, true, false, List, [], ◌∷◌, ◌++◌, ℕ, zero, suc, ◌+◌, ◌≤◌, ◌<◌}
+use Rattle.std.specs.Prelude.{◌≡◌, Bool, true, false, List, [], ◌∷◌, ◌++◌, ℕ, zero, suc, ◌+◌, ◌≤◌, ◌<◌, Err}
 use Rattle.refusal.specs.declared.Refusal.{Refusal}
 use Rattle.resequencer.specs.declared.Resequencer.{Resequencer}
-use Rattle.resequencer.specs.declared.Outcome.TheVariants.{Refused}
 use Rattle.resequencer.specs.State.{fresh_state}
 use Rattle.resequencer.specs.Events.{clock_end_of}
 use Rattle.resequencer_claims.specs.Events.{Event, packet, stray, clock_end, answer, handed_on, nothing, more, arrived}
@@ -23,7 +22,7 @@ pub record Lowest (has : ℕ → Bool) (lowest : ℕ) : Type 0 where
 abbrev pub AllowedCall : Resequencer → (ℕ → Bool) → Event → Type 0
 AllowedCall s has (packet n) = (expected : ℕ) → Lowest has expected → (expected ≤ n + 32) × (n ≤ expected + 31)
 AllowedCall s has (stray sn ticket) = 63 < sn
-AllowedCall s has (clock_end sn) = (why : Refusal) × ((clock_end_of s sn).outcome ≡ Refused why)
+AllowedCall s has (clock_end sn) = (why : Refusal) × ((clock_end_of s sn).outcome ≡ Err why)
 
 -- every event of the list is allowed. "Each call gets the state the last one returned, and nobody
 -- else changes it."

@@ -3,13 +3,13 @@
 -- need not be the lowest missing, true numbers handed on strictly rise, clocks ending or not." The
 -- number expected is defined by the paragraph after it. proofs/Rising.antt proves the claim.
 -- Assumes nothing.
-use Rattle.std.specs.Prelude.{◌≡◌, Bool, true, false, List, [], ◌∷◌, map, ℕ, suc, ◌+◌, ◌%◌, ◌≤◌, ◌<◌}
+use Rattle.std.specs.Prelude.{◌≡◌, Bool, true, false, List, [], ◌∷◌, map, ℕ, suc, ◌+◌, ◌%◌, ◌≤◌, ◌<◌, Ok, Err}
 use Rattle.refusal.specs.declared.Refusal.{Refusal}
 use Rattle.resequencer.specs.declared.Resequencer.{Resequencer}
-use Rattle.resequencer.specs.declared.Outcome.TheVariants.{HandedOn, Refused}
 use Rattle.resequencer.specs.State.{fresh_state}
 use Rattle.resequencer.specs.Events.{clock_end_of}
 use Rattle.resequencer_claims.specs.Events.{Event, packet, stray, clock_end, answer, handed_on, nothing, more, arrived}
+use Rattle.resequencer.specs.declared.Outcome.TheVariants.{HandedOn}
 
 -- `found` is the first number from `from` up that has not arrived, where `has` is which have
 pub record FirstMissing (has : ℕ → Bool) (from found : ℕ) : Type 0 where
@@ -26,8 +26,8 @@ abbrev pub ExpectedNext : Resequencer → (ℕ → Bool) → ℕ → Event → �
 ExpectedNext s has expected (packet n) next = FirstMissing has expected next
 ExpectedNext s has expected (stray sn ticket) next = next ≡ expected
 ExpectedNext s has expected (clock_end sn) next =
-    ((why : Refusal) → (clock_end_of s sn).outcome ≡ Refused why → next ≡ expected)
-    × ((clock_end_of s sn).outcome ≡ HandedOn → (c : ℕ) × (expected ≤ c) × (c ≤ expected + 31) × (c % 64 ≡ sn) × FirstMissing has (suc c) next)
+    ((why : Refusal) → (clock_end_of s sn).outcome ≡ Err why → next ≡ expected)
+    × ((clock_end_of s sn).outcome ≡ Ok HandedOn → (c : ℕ) × (expected ≤ c) × (c ≤ expected + 31) × (c % 64 ≡ sn) × FirstMissing has (suc c) next)
 
 -- the event is one that the claim allows: "each arrival is at most 32 behind and 31 ahead of the
 -- number expected"; an arrival without a true number has an SN over 63; any clock end is allowed

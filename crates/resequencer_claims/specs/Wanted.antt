@@ -3,23 +3,24 @@
 -- included. proofs/Wanted.antt proves `Wanted cs` for every list of calls cs, proofs/AtMost.antt
 -- `AtMost32` and proofs/Keeping.antt `KeepsOrder`.
 -- Assumes nothing.
-use Rattle.std.specs.Prelude.{◌≡◌, true, false, ◌⊎◌, List, [], ◌∷◌, ℕ, ◌+◌, ◌^◌, ◌≤◌, ◌<◌}
+use Rattle.std.specs.Prelude.{◌≡◌, true, false, ◌⊎◌, List, [], ◌∷◌, ℕ, ◌+◌, ◌^◌, ◌≤◌, ◌<◌, Result, Ok, Err}
 use Rattle.wordset.specs.Sets.{count}
 use Rattle.resequencer.specs.declared.Resequencer.{Resequencer}
-use Rattle.resequencer.specs.declared.Outcome.{Outcome}
-use Rattle.resequencer.specs.declared.Outcome.TheVariants.{Held, HandedOn, Old, Duplicate, Refused}
 use Rattle.resequencer.specs.State.{fresh_state, in_order, has_clock}
 use Rattle.resequencer.specs.Events.{arrive_of}
 use Rattle.resequencer_claims.specs.Calls.{Call, arrival, clock_end, answer_to, after_calls, state_after}
+use Rattle.resequencer.specs.declared.Outcome.{Outcome}
+use Rattle.resequencer.specs.declared.Outcome.TheVariants.{Held, HandedOn, Old, Duplicate}
+use Rattle.refusal.specs.declared.Refusal.{Refusal}
 
 -- 1 for the outcome of an arrival that is taken: "arrivals taken (neither refused, old nor
 -- duplicate)"
-abbrev pub is_taken : Outcome → ℕ
-is_taken Held = 1
-is_taken HandedOn = 1
-is_taken Old = 0
-is_taken Duplicate = 0
-is_taken (Refused why) = 0
+abbrev pub is_taken : Result Outcome Refusal → ℕ
+is_taken (Ok Held) = 1
+is_taken (Ok HandedOn) = 1
+is_taken (Ok Old) = 0
+is_taken (Ok Duplicate) = 0
+is_taken (Err why) = 0
 
 -- 1 for a call that is an arrival taken
 abbrev pub takes : Resequencer → Call → ℕ

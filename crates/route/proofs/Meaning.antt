@@ -12,7 +12,6 @@ use lib.ListN.{length, get_or, take, replicate, get_or-replicate, get_or-append,
 use lib.Seq.{take_at, get_or-append-add}
 use borrow.Author.Tests.{eq-eqb, ne_eqb, eqb-true, eqb-false}
 use Rattle.refusal.specs.declared.Refusal.TheVariants.{RouteListMalformed}
-use Rattle.refusal.specs.declared.Verdict.TheVariants.{Done, Refused}
 use Rattle.lists.proofs.Lists.{length_from, from_at, is-from}
 use Rattle.wordset.specs.Sets.{member}
 use Rattle.wordset.proofs.Sets.{set_of-lt, member-set_of}
@@ -24,6 +23,7 @@ use Rattle.route.specs.Updating.{codes_of, codes_after, table_after, is_lost, lo
 use Rattle.route.specs.Meaning.{IsTable, UpdateDone, UpdateClaim}
 use Rattle.route.proofs.Reporting.{those-in, those-rise, those-none}
 use Rattle.route.proofs.Cases.{update-long, update-short}
+use Rattle.std.specs.Prelude.{Ok, Err}
 
 -- ---- the places of a report past those used are 0
 
@@ -89,7 +89,7 @@ module _ (t : Table) (es : List Entry) where
   lost = lost_between t (table_after es t)
 
   answer : Updated
-  answer = reported Done (table_after es t) lost
+  answer = reported (Ok tt) (table_after es t) lost
 
   -- an address is among them exactly if it had a code before and has none after
   lost-in : (a : ℕ) → a < 256 → is_in a (take answer.count answer.lost) ≡ is_lost t (table_after es t) a
@@ -115,20 +115,20 @@ module _ (t : Table) (es : List Entry) where
     is-table = subst (λ (u : Updated). IsTable u.next) (sym e) (after_table es t);
   }
 
-cut-refused : (b : Bool) (t : Table) → (update_by b cut t).verdict ≡ Refused RouteListMalformed
+cut-refused : (b : Bool) (t : Table) → (update_by b cut t).verdict ≡ Err RouteListMalformed
 cut-refused true t = refl
 cut-refused false t = refl
 
-refused-unchanged : (b : Bool) (p : Parsed) (t : Table) → (update_by b p t).verdict ≡ Refused RouteListMalformed
+refused-unchanged : (b : Bool) (p : Parsed) (t : Table) → (update_by b p t).verdict ≡ Err RouteListMalformed
     → ((update_by b p t).next ≡ t) × ((update_by b p t).count ≡ 0) × ((update_by b p t).lost ≡ replicate 256 0)
 refused-unchanged true (whole es) t e = let z : ◌≡◌ {A = ℕ} 0 1 = cc in absurd (omega arith)
 refused-unchanged true cut t e = (refl, refl, refl)
 refused-unchanged false p t e = (refl, refl, refl)
 
-empty-list : (t : Table) → IsTable t → update_of t [] ≡ reported Done t []
+empty-list : (t : Table) → IsTable t → update_of t [] ≡ reported (Ok tt) t []
 unfolding update_of entries_in parse
 empty-list t i =
-    ap (λ (x : Table). reported Done x (lost_between t x)) (after_none t i) ∙ ap (reported Done t) (none-lost t)
+    ap (λ (x : Table). reported (Ok tt) x (lost_between t x)) (after_none t i) ∙ ap (reported (Ok tt) t) (none-lost t)
 
 pub update-claim : UpdateClaim
 unfolding update_of

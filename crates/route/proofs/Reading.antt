@@ -3,13 +3,13 @@
 use mathlib.Core.Path.{◌≡◌, refl, sym, ap, ap₂, ◌∙◌}
 use mathlib.Core.List.{List, [], ◌∷◌}
 use mathlib.Core.Bool.{true, false, false≢true}
-use Prim.Native.Nat.{ℕ, zero, suc, zero-le, ◌+◌, ◌-◌, ◌/◌, ◌%◌, ◌≤◌, ◌<◌}
+use Prim.Native.Nat.{ℕ, zero, suc, zero-le, ◌+◌, ◌-◌, ◌%◌, ◌≤◌, ◌<◌}
 use native.Mathlib.Numerals.{add-one}
 use native.Mathlib.Decide.{dec_le}
 use native.Mathlib.Omega.{arith}
-use lib.ListN.{length, get_or, take, drop, set, length-drop, drop_of_length-le}
+use lib.ListN.{length, get_or, drop, set, length-drop, drop_of_length-le}
 use lib.Seq.{drop-cons, drop-drop}
-use borrow.Author.Tests.{lt-leb, le-leb, eq-eqb, ne_eqb}
+use borrow.Author.Tests.{lt-leb, le-leb}
 use Rattle.wordset.specs.Sets.{with}
 use Rattle.route.specs.Entries.{Entry, entry, Parsed, cut, whole, follow, parse, entries_in}
 use Rattle.route.specs.Parts.{Change, Taken, Collected, mark, step, collect, no_change, taken_of, collected_by, Found}
@@ -31,21 +31,6 @@ module _ (xs : List ℕ) (c : Change) where
   pub taken-cut : length xs < get_or xs 0 0 % 8 + 2 → record { size = 0; change = c } ≡ taken_of xs c
   unfolding taken_of
   taken-cut h = simp (lt-leb _ _ h)
-
-  module _ (fits : get_or xs 0 0 % 8 + 2 ≤ length xs) (m : List ℕ) where
-    pub taken-adds : get_or xs 0 0 / 8 % 2 ≡ 1 → m ≡ mark (get_or xs 0 0 / 16) (take (get_or xs 0 0 % 8 + 2 - 1) (drop 1 xs)) c.added
-        → record { size = get_or xs 0 0 % 8 + 2; change = record { added = m; deleted = c.deleted } } ≡ taken_of xs c
-    unfolding taken_of step
-    taken-adds a h =
-        let n : get_or xs 0 0 % 8 + 2 - 1 ≡ get_or xs 0 0 % 8 + 1 = omega arith in
-        simp (le-leb _ _ fits, eq-eqb _ _ a, h, n)
-
-    pub taken-deletes : (get_or xs 0 0 / 8 % 2 ≡ 1 → ⊥) → m ≡ mark (get_or xs 0 0 / 16) (take (get_or xs 0 0 % 8 + 2 - 1) (drop 1 xs)) c.deleted
-        → record { size = get_or xs 0 0 % 8 + 2; change = record { added = c.added; deleted = m } } ≡ taken_of xs c
-    unfolding taken_of step
-    taken-deletes a h =
-        let n : get_or xs 0 0 % 8 + 2 - 1 ≡ get_or xs 0 0 % 8 + 1 = omega arith in
-        simp (le-leb _ _ fits, ne_eqb _ _ a, h, n)
 
 -- ---- what one entry adds to the parsed list
 

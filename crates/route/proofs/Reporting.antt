@@ -15,7 +15,8 @@ use lib.Seq.{append_snoc, set-append_seam, get_or-append_seam}
 use borrow.Author.Tests.{ne_eqb, eqb-true, eqb-false}
 use Rattle.route.specs.Entries.{is_in}
 use Rattle.route.specs.Updating.{those}
-use Rattle.route.specs.Parts.{Report, report_of, noted, NoneFrom}
+use Rattle.route.specs.declared.Report.{Report}
+use Rattle.route.specs.Parts.{report_of, noted, NoneFrom}
 
 -- ---- those numbers below n that p picks
 

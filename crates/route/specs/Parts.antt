@@ -3,11 +3,12 @@
 -- document 01 are defined in Entries.antt and Updating.antt; proofs/ shows that these definitions
 -- agree with them.
 -- Assumes nothing.
-use Rattle.std.specs.Prelude.{◌≡◌, Bool, true, false, cond, List, [], ◌∷◌, ◌++◌, ℕ, ◌+◌, ◌-◌, ◌%◌, ◌<◌, leb, length, get_or, drop, set, replicate}
+use Rattle.std.specs.Prelude.{◌≡◌, Bool, true, false, cond, List, [], ◌∷◌, ◌++◌, ℕ, ◌+◌, ◌-◌, ◌%◌, ◌<◌, ◌≤◌, leb, length, get_or, drop, set, replicate}
 use Rattle.lists.specs.Lists.{list_from}
 use Rattle.wordset.specs.Sets.{with, union, difference}
+use Rattle.route.specs.declared.Report.{Report}
 use Rattle.route.specs.Entries.{Entry, entry, Parsed, cut, whole}
-use Rattle.route.specs.Updating.{is_lost}
+use Rattle.route.specs.Updating.{is_lost, those}
 
 -- for each address the set of the codes that a route list adds there, and the set of those that it
 -- deletes there
@@ -33,15 +34,6 @@ taken size added deleted = record { size = size; change = change added deleted }
 pub record Collected : Type 0 where
   pub whole : Bool
   pub change : Change
-
--- a report that is being written: the count of the addresses in it, and its 256 places
-pub record Report : Type 0 where
-  pub count : ℕ
-  pub lost : List ℕ
-
--- the report with this count and these places
-abbrev pub report : ℕ → List ℕ → Report
-report count lost = record { count = count; lost = lost }
 
 -- `code` is added to the set of each of these addresses
 unfoldable pub mark : ℕ → List ℕ → List ℕ → List ℕ
@@ -110,3 +102,8 @@ lost_in before after = is_lost (record { codes = before }) (record { codes = aft
 -- p is false for each of the n numbers starting at `from`
 abbrev pub NoneFrom : ℕ → ℕ → (ℕ → Bool) → Type 0
 NoneFrom from n p = (i : ℕ) → i < n → p (from + i) ≡ false
+
+-- what a report must hold before the 16 addresses starting at `from` are looked at: those below
+-- `from` that are lost
+abbrev pub Told : List ℕ → List ℕ → ℕ → Report → Type 0
+Told before after from r = (from + 16 ≤ 256) × (r ≡ report_of (those from (lost_in before after)))

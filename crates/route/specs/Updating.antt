@@ -1,19 +1,16 @@
 -- The table, the number and the choice of interrogators of an address, and the update of the table:
 -- document 01, "Interrogators and ground addresses".
 -- Assumes nothing.
-use Rattle.std.specs.Prelude.{Bool, true, false, not, cond, ◌&&◌, ◌||◌, List, [], ◌∷◌, ◌++◌, ℕ, zero, suc, ◌-◌, leb, eqb, length, get_or, replicate}
+use Rattle.std.specs.Prelude.{Bool, true, false, not, cond, ◌&&◌, ◌||◌, List, [], ◌∷◌, ◌++◌, ℕ, zero, suc, ◌-◌, leb, eqb, length, get_or, replicate, Result, Ok, Err, Option}
 use Rattle.refusal.specs.declared.Refusal.TheVariants.{RouteListMalformed}
-use Rattle.refusal.specs.declared.Verdict.{Verdict}
-use Rattle.refusal.specs.declared.Verdict.TheVariants.{Done, Refused}
-use Rattle.refusal.specs.Numbers.{check}
+use Rattle.refusal.specs.Numbers.{check, Verdict}
 use Rattle.lists.specs.Lists.{list_from}
 use Rattle.wordset.specs.Sets.{member, set_of, count}
-use Rattle.route_choice.specs.declared.LastUsed.{LastUsed}
-use Rattle.route_choice.specs.declared.Choice.{Choice}
 use Rattle.route_choice.specs.Choosing.{choose_of}
 use Rattle.route.specs.declared.Table.{Table}
 use Rattle.route.specs.declared.Updated.{Updated}
 use Rattle.route.specs.Entries.{Entry, Parsed, cut, whole, entries_in, adds, deletes}
+use Rattle.refusal.specs.declared.Refusal.{Refusal}
 
 -- "for each of 256 ground addresses, a set of the 16 codes II; it starts empty"
 abbrev pub empty_table : Table
@@ -28,7 +25,7 @@ abbrev pub count_of : Table → ℕ → ℕ
 count_of t a = count 16 (codes_of t a)
 
 -- the choice of an interrogator for address a: the choice among its codes
-abbrev pub choose_for : Table → ℕ → LastUsed → ℕ → Choice
+abbrev pub choose_for : Table → ℕ → Option ℕ → ℕ → Result ℕ Refusal
 choose_for t a last failed = choose_of (codes_of t a) last failed
 
 -- ---- the update
@@ -67,14 +64,14 @@ is_whole (whole es) = true
 
 -- the check of a list: 6, "route list over 255 bytes, or its last entry is cut"
 abbrev pub update_verdict : List ℕ → Verdict
-update_verdict list = check (leb (length list) 255 && is_whole (entries_in list)) RouteListMalformed Done
+update_verdict list = check (leb (length list) 255 && is_whole (entries_in list)) RouteListMalformed (Ok tt)
 
 -- the answer, from whether the list has at most 255 bytes and from its entries: "6 is the only
 -- refusal", and it changes and reports nothing
 abbrev pub update_by : Bool → Parsed → Table → Updated
-update_by true (whole es) t = reported Done (table_after es t) (lost_between t (table_after es t))
-update_by true cut t = reported (Refused RouteListMalformed) t []
-update_by false p t = reported (Refused RouteListMalformed) t []
+update_by true (whole es) t = reported (Ok tt) (table_after es t) (lost_between t (table_after es t))
+update_by true cut t = reported (Err RouteListMalformed) t []
+update_by false p t = reported (Err RouteListMalformed) t []
 
 -- 6: "route list over 255 bytes, or its last entry is cut"
 unfoldable pub update_of : Table → List ℕ → Updated

@@ -2,18 +2,15 @@
 // (document 01, "Interrogators and ground addresses").
 #![tactic(auto)]
 
-ghost use Rattle.std.specs.Prelude.{◌≡◌, false, not, ◌&&◌, [], ◌+◌, ◌<◌, ◌≤◌, eqb, replicate};
+ghost use Rattle.std.specs.Prelude.{◌≡◌, false, not, ◌&&◌, [], ◌+◌, ◌<◌, ◌≤◌, eqb};
 ghost use Rattle.refusal.specs.declared.Refusal.TheVariants.{RouteListMalformed};
-ghost use Rattle.refusal.specs.declared.Verdict.TheVariants.{Refused as RefusedVerdict};
-ghost use Rattle.refusal.specs.Numbers.{verdict_number, value_by};
-ghost use Rattle.route_choice.specs.Choosing.{choice_number, choice_code, usable, choose_verdict, chosen_code};
+ghost use Rattle.refusal.specs.Numbers.{value_by, refusal_number};
+ghost use Rattle.route_choice.specs.Choosing.{choice_code, usable, choose_verdict, chosen_code};
 ghost use Rattle.route.specs.Entries.{entries_in};
 ghost use Rattle.route.specs.Updating.{empty_table, codes_of, count_of, choose_for, those, reported, update_verdict, update_of};
-ghost use Rattle.route.specs.Parts.{mark, change, taken, taken_of, collected_by, Found, settled, report, report_of, noted, lost_in, NoneFrom};
+ghost use Rattle.route.specs.Parts.{mark, change, taken, taken_of, collected_by, Found, settled, report_of, noted, lost_in, NoneFrom, Told};
 
-use refusal::{Refusal, Verdict};
-use route_choice::{Choice, LastUsed};
-use wordset::set16;
+use refusal::Refusal;
 
 // For each of the 256 ground addresses the set of the codes II of its interrogators: bit i of
 // `codes[a]` is code i at address a.
@@ -24,10 +21,10 @@ pub struct Table {
 
 // The answer of `Table::update`. `next` is the table after it, the same table after a refusal. The
 // first `count` places of `lost` hold the addresses that had a code before and have none after,
-// rising; the other places are 0.
+// rising; the other places are 0. The library uses no heap, so that this is no `Vec`.
 #[derive(Clone, Copy)]
 pub struct Updated {
-    pub verdict: Verdict,
+    pub verdict: Result<(), Refusal>,
     pub next: Table,
     pub count: u16,
     pub lost: [u8; 256],
@@ -37,11 +34,9 @@ pub struct Updated {
 fn mark_all(sets: &mut [u16; 256], addresses: &[u8], code: u8)
     ensures { sets.new ≡ mark code addresses.now sets.old }
 {
-    let mut i: usize = 0;
-    while i < addresses.len() {
-        let a = addresses[i] as usize;
-        sets[a] = set16::with(sets[a], code);
-        i = i + 1;
+    for address in addresses {
+        let a = *address as usize;
+        sets[a] = wordset::with(sets[a], code);
     }
 }
 
@@ -49,6 +44,7 @@ fn mark_all(sets: &mut [u16; 256], addresses: &[u8], code: u8)
 // `deleted`. Returns the size of the entry in bytes, 0 if it is cut. The pairs of all entries are
 // collected before the table is changed, since every addition is made before any deletion; the sets
 // are lent, so that no entry costs a copy of them.
+#[tactic(auto, unfolding(crate::specs::Parts::taken_of, crate::specs::Parts::step))]
 fn take_entry(rest: &[u8], added: &mut [u16; 256], deleted: &mut [u16; 256]) -> usize
     ensures { taken result added.new deleted.new ≡ taken_of rest.now (change added.old deleted.old) }
 {
@@ -78,6 +74,7 @@ fn collect_list(list: &[u8], added: &mut [u16; 256], deleted: &mut [u16; 256]) -
         (change added.new deleted.new) }
 {
     let mut at: usize = 0;
+    // No `for`: each entry says how far the next one is, which the loop learns by reading it.
     while at < list.len() {
         let size = take_entry(&list[at..], added, deleted);
         if size == 0 {
@@ -93,10 +90,8 @@ fn settle(codes: &[u16; 256], added: &[u16; 256], deleted: &[u16; 256]) -> [u16;
     ensures { result ≡ settled codes.now (change added.now deleted.now) }
 {
     let mut next = [0u16; 256];
-    let mut a: usize = 0;
-    while a < 256 {
-        next[a] = set16::difference(set16::union(codes[a], added[a]), deleted[a]);
-        a = a + 1;
+    for a in 0..256 {
+        next[a] = wordset::difference(wordset::union(codes[a], added[a]), deleted[a]);
     }
     next
 }
@@ -115,92 +110,74 @@ fn any_lost(before: &[u16; 256], after: &[u16; 256], from: usize) -> bool
     ensures { result ≡ false → NoneFrom from 16 (lost_in before.now after.now) }
 {
     let mut any = false;
-    let mut i: usize = 0;
-    while i < 16 {
-        let a = from + i;
+    for a in from..from + 16 {
         any = any | is_lost(before[a], after[a]);
-        i = i + 1;
     }
     any
 }
 
-// Writes address `a` to the next free place of `lost` if `gone` is true. Returns the new count of
-// addresses in `lost`.
-fn note(lost: &mut [u8; 256], count: u16, a: usize, gone: bool) -> u16
-    requires { (a < 256) × (count < 256) }
-    ensures { report result lost.new ≡ noted (report count lost.old) a gone }
-{
-    if gone {
-        let at = count as usize;
-        lost[at] = a as u8;
-        count + 1
-    } else {
-        count
-    }
-}
-
-// Adds to the `count` addresses in `lost` those of the 16 addresses starting at `from` that are
-// lost. Returns the new count.
-fn note_each(
-    before: &[u16; 256],
-    after: &[u16; 256],
-    from: usize,
-    lost: &mut [u8; 256],
+// A report that is being written: the first `count` places of `lost` hold the addresses in it, the
+// other places are 0.
+struct Report {
+    lost: [u8; 256],
     count: u16,
-) -> u16
-    requires { (from + 16 ≤ 256) × (report count lost.old ≡ report_of (those from (lost_in before.now after.now))) }
-    ensures { report result lost.new ≡ report_of (those (from + 16) (lost_in before.now after.now)) }
-{
-    let mut n = count;
-    let mut i: usize = 0;
-    while i < 16 {
-        let a = from + i;
-        n = note(lost, n, a, is_lost(before[a], after[a]));
-        i = i + 1;
-    }
-    n
 }
 
-// The same as `note_each`, but a block of 16 addresses of which none is lost costs only the test
-// `any_lost`.
-fn note_any(
-    before: &[u16; 256],
-    after: &[u16; 256],
-    from: usize,
-    lost: &mut [u8; 256],
-    count: u16,
-) -> u16
-    requires { (from + 16 ≤ 256) × (report count lost.old ≡ report_of (those from (lost_in before.now after.now))) }
-    ensures { report result lost.new ≡ report_of (those (from + 16) (lost_in before.now after.now)) }
-{
-    if any_lost(before, after, from) {
-        note_each(before, after, from, lost, count)
-    } else {
-        count
+impl Report {
+    // Writes address `a` to the next free place if `gone` is true.
+    #[tactic(auto, unfolding(crate::specs::Parts::noted))]
+    fn note(&mut self, a: usize, gone: bool)
+        requires { (a < 256) × (self.old.count < 256) }
+        ensures { self.new ≡ noted self.old a gone }
+    {
+        if gone {
+            let at = self.count as usize;
+            self.lost[at] = a as u8;
+            self.count = self.count + 1;
+        }
+    }
+
+    // Adds those of the 16 addresses starting at `from` that are lost.
+    fn note_each(&mut self, before: &[u16; 256], after: &[u16; 256], from: usize)
+        requires { Told before.now after.now from self.old }
+        ensures { self.new ≡ report_of (those (from + 16) (lost_in before.now after.now)) }
+    {
+        for a in from..from + 16 {
+            self.note(a, is_lost(before[a], after[a]));
+        }
+    }
+
+    // The same, but a block of 16 addresses of which none is lost costs only the test `any_lost`.
+    fn note_any(&mut self, before: &[u16; 256], after: &[u16; 256], from: usize)
+        requires { Told before.now after.now from self.old }
+        ensures { self.new ≡ report_of (those (from + 16) (lost_in before.now after.now)) }
+    {
+        if any_lost(before, after, from) {
+            self.note_each(before, after, from);
+        }
     }
 }
 
-// Writes the addresses that lost their last code to `lost`, rising; `lost` must be all 0 before.
-// Returns their count.
-fn lost_between(before: &[u16; 256], after: &[u16; 256], lost: &mut [u8; 256]) -> u16
-    requires { lost.old ≡ replicate 256 0 }
-    ensures { report result lost.new ≡ report_of (those 256 (lost_in before.now after.now)) }
+// The report of the addresses that lost their last code, rising.
+fn lost_between(before: &[u16; 256], after: &[u16; 256]) -> Report
+    ensures { result ≡ report_of (those 256 (lost_in before.now after.now)) }
 {
-    let mut count: u16 = 0;
-    let mut block: usize = 0;
-    while block < 16 {
-        count = note_any(before, after, block * 16, lost, count);
-        block = block + 1;
+    let mut report = Report {
+        lost: [0u8; 256],
+        count: 0,
+    };
+    for block in 0..16 {
+        report.note_any(before, after, block * 16);
     }
-    count
+    report
 }
 
 // The answer to a refused list: refusal 6, the same table, no address reported.
 fn refuse(table: Table) -> Updated
-    ensures { result ≡ reported (RefusedVerdict RouteListMalformed) table [] }
+    ensures { result ≡ reported (Err RouteListMalformed) table [] }
 {
     Updated {
-        verdict: Verdict::Refused(Refusal::RouteListMalformed),
+        verdict: Err(Refusal::RouteListMalformed),
         next: table,
         count: 0,
         lost: [0u8; 256],
@@ -227,14 +204,14 @@ impl Table {
     pub fn count_of(self, address: u8) -> u8
         ensures { result ≡ count_of self address }
     {
-        set16::count(self.codes_of(address))
+        wordset::count(self.codes_of(address))
     }
 
     // Chooses an interrogator for `address` by `route_choice::choose`, which describes the choice
     // and its refusals.
-    pub fn choose_for(self, address: u8, last: LastUsed, failed: u16) -> Choice
+    pub fn choose_for(self, address: u8, last: Option<u8>, failed: u16) -> Result<u8, Refusal>
         ensures whole { result ≡ choose_for self address last failed }
-        ensures number { choice_number result ≡ verdict_number (choose_verdict (codes_of self address) last failed) }
+        ensures number { refusal_number result ≡ refusal_number (choose_verdict (codes_of self address) last failed) }
         ensures value { choice_code result ≡ value_by (choose_verdict (codes_of self address) last failed) (chosen_code (usable (codes_of self address) failed) last) }
     {
         route_choice::choose(self.codes_of(address), last, failed)
@@ -245,7 +222,7 @@ impl Table {
     // its last entry is cut.
     pub fn update(self, list: &[u8]) -> Updated
         ensures value { result ≡ update_of self list.now }
-        ensures number { verdict_number result.verdict ≡ verdict_number (update_verdict list.now) }
+        ensures number { refusal_number result.verdict ≡ refusal_number (update_verdict list.now) }
     {
         if 255 < list.len() {
             return refuse(self);
@@ -255,13 +232,12 @@ impl Table {
         if collect_list(list, &mut added, &mut deleted) {
             let before = self.codes;
             let codes = settle(&before, &added, &deleted);
-            let mut lost = [0u8; 256];
-            let count = lost_between(&before, &codes, &mut lost);
+            let Report { lost, count } = lost_between(&before, &codes);
             Updated {
-                verdict: Verdict::Done,
-                next: Table { codes: codes },
-                count: count,
-                lost: lost,
+                verdict: Ok(()),
+                next: Table { codes },
+                count,
+                lost,
             }
         } else {
             refuse(self)

@@ -2,11 +2,11 @@
 -- another.
 -- Assumes nothing.
 use mathlib.Core.Path.{◌≡◌, refl, sym, ap, ap₂, ◌∙◌}
-use mathlib.Core.List.{List, [], ◌∷◌, ◌++◌, append_assoc, append-nil}
+use mathlib.Core.List.{List, [], ◌∷◌, ◌++◌, append_assoc}
 use Prim.Native.Nat.{ℕ, ◌+◌, ◌*◌, ◌/◌, ◌%◌, ◌≤◌, ◌<◌}
 use native.Mathlib.Omega.{arith}
-use lib.ListN.{length, get_or, take, drop, set, length-append, drop_of_length-le}
-use lib.Seq.{length-take-le, take_all}
+use lib.ListN.{length, get_or, take, drop, set, length-append}
+use lib.Seq.{length-take-le}
 use Rattle.lists.specs.Lists.{list_from}
 use Rattle.lists.proofs.Lists.{is-from}
 use Rattle.little.specs.Little.{little_of, little_bytes, list_bytes}
@@ -51,8 +51,3 @@ written_next codes out now a h l w e =
     ∙ put_next (p ++ (x % 256 ∷ [])) out (a * 2 + 1) (x / 256) m (omega arith)
     ∙ ap₂ (λ (t : List ℕ) (k : ℕ). t ++ drop k out)
     (append_assoc p (x % 256 ∷ []) (x / 256 ∷ []) ∙ ap (λ (y : ℕ). p ++ (x % 256 ∷ y ∷ [])) high ∙ sym (list-next 2 a codes h)) end
-
--- all of them
-pub written-end : (codes out : List ℕ) (a : ℕ) → length codes ≤ a → length out ≤ a * 2 → written codes out a ≡ list_bytes 2 codes
-written-end codes out a h l =
-    ap₂ (λ (p q : List ℕ). list_bytes 2 p ++ q) (take_all a codes h) (drop_of_length-le out l) ∙ append-nil (list_bytes 2 codes)

@@ -8,18 +8,16 @@ use mathlib.Core.List.{List}
 use Prim.Native.Nat.{ℕ, ◌+◌, ◌*◌, ◌/◌, ◌%◌}
 use native.Mathlib.Omega.{arith}
 use lib.ListN.{length}
-use Rattle.refusal.specs.declared.Verdict.{Verdict}
-use Rattle.refusal.specs.declared.Verdict.TheVariants.{Done, Refused}
-use Rattle.refusal.specs.Numbers.{verdict_number, value_by}
+use Rattle.refusal.specs.Numbers.{value_by, refusal_number, Verdict}
 use Rattle.refusal.proofs.Numbers.{number-range}
 use Rattle.little.specs.Little.{little_list}
 use Rattle.little.proofs.Little.{list-read-back, list-written-back}
-use Rattle.route_choice.specs.declared.Choice.{Choice}
-use Rattle.route_choice.specs.declared.Choice.TheVariants.{Chosen, Refused as NotChosen}
 use Rattle.route_choice.specs.Choosing.{choose_of}
 use Rattle.route.specs.Updating.{codes_of, count_of, choose_for, empty_table}
 use Rattle.route_bytes.specs.Stored.{is_table, table_in, table_bytes, last_in, choice_answer, update_in, update_checks, update_answer, if_done, update_bytes, update_lost}
 use Rattle.route_bytes.specs.Claims.{RoundTrips, RefusalsChangeNothing}
+use Rattle.std.specs.Prelude.{Result, Ok, Err}
+use Rattle.refusal.specs.declared.Refusal.{Refusal}
 
 pub round-trips : RoundTrips
 round-trips = record {
@@ -38,20 +36,20 @@ value-only true v h = absurd (h (omega arith))
 value-only false v h = refl
 
 -- an answer with a number and a value: a refusal's number fits the lowest byte
-choice : (c : Choice) → choice_answer c % 256 ≢ 0 → choice_answer c / 256 ≡ 0
-choice (Chosen code) h = absurd (h (omega arith))
-choice (NotChosen why) h = omega (arith, (number-range why).1)
+choice : (c : Result ℕ Refusal) → choice_answer c % 256 ≢ 0 → choice_answer c / 256 ≡ 0
+choice (Ok code) h = absurd (h (omega arith))
+choice (Err why) h = omega (arith, (number-range why).1)
 
-chosen : (t : Bool) (c : Choice) → cond t (choice_answer c) 14 % 256 ≢ 0 → cond t (choice_answer c) 14 / 256 ≡ 0
+chosen : (t : Bool) (c : Result ℕ Refusal) → cond t (choice_answer c) 14 % 256 ≢ 0 → cond t (choice_answer c) 14 / 256 ≡ 0
 chosen true c h = choice c h
 chosen false c h = refl
 
 module _ (b list lost : List ℕ) where
   -- by the verdict of the checks, whatever is counted and written
-  updated-by : (v : Verdict) (count : ℕ) (bytes report : List ℕ) → (verdict_number v + 256 * value_by v count) % 256 ≢ 0
-      → ((verdict_number v + 256 * value_by v count) / 256 ≡ 0) × (if_done v bytes b ≡ b) × (if_done v report lost ≡ lost)
-  updated-by Done count bytes report h = absurd (h (omega arith))
-  updated-by (Refused why) count bytes report h = (omega (arith, (number-range why).1), refl, refl)
+  updated-by : (v : Verdict) (count : ℕ) (bytes report : List ℕ) → (refusal_number v + 256 * value_by v count) % 256 ≢ 0
+      → ((refusal_number v + 256 * value_by v count) / 256 ≡ 0) × (if_done v bytes b ≡ b) × (if_done v report lost ≡ lost)
+  updated-by (Ok tt) count bytes report h = absurd (h (omega arith))
+  updated-by (Err why) count bytes report h = (omega (arith, (number-range why).1), refl, refl)
 
   updated : update_answer b list (length lost) % 256 ≢ 0
       → (update_answer b list (length lost) / 256 ≡ 0) × (update_bytes b list (length lost) ≡ b) × (update_lost b list lost ≡ lost)

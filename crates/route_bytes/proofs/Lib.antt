@@ -1,5 +1,4 @@
 -- What is proved of tables in bytes.
 
 mod Bytes
-mod Cases
 pub mod Claims

@@ -2,20 +2,16 @@
 -- addresses", for callers that use only numbers. An answer is one number: the refusal number, 0 for
 -- done, plus 256 times the value. After a refusal the value is 0.
 -- Assumes nothing.
-use Rattle.std.specs.Prelude.{Bool, cond, List, ℕ, ◌+◌, ◌*◌, min, leb, eqb, length}
+use Rattle.std.specs.Prelude.{Bool, cond, List, ℕ, ◌+◌, ◌*◌, min, leb, eqb, length, Result, Ok, Err, Option, Some, None}
 use Rattle.refusal.specs.declared.Refusal.TheVariants.{OutputTooShort, NotInOrder}
-use Rattle.refusal.specs.declared.Verdict.{Verdict}
-use Rattle.refusal.specs.declared.Verdict.TheVariants.{Done, Refused}
-use Rattle.refusal.specs.Numbers.{number_of, verdict_number, value_by, check}
+use Rattle.refusal.specs.Numbers.{number_of, value_by, check, refusal_number, Verdict}
 use Rattle.lists.specs.Lists.{over}
 use Rattle.little.specs.Little.{little_list, list_bytes}
-use Rattle.route_choice.specs.declared.LastUsed.{LastUsed}
-use Rattle.route_choice.specs.declared.LastUsed.TheVariants.{Code, Nothing as NoCode}
-use Rattle.route_choice.specs.declared.Choice.{Choice}
-use Rattle.route_choice.specs.Choosing.{choice_number, choice_code, choose_of}
+use Rattle.route_choice.specs.Choosing.{choice_code, choose_of}
 use Rattle.route.specs.declared.Table.{Table}
 use Rattle.route.specs.declared.Updated.{Updated}
 use Rattle.route.specs.Updating.{empty_table, codes_of, count_of, choose_for, update_of}
+use Rattle.refusal.specs.declared.Refusal.{Refusal}
 
 -- a table has exactly 512 bytes
 abbrev pub is_table : List ℕ → Bool
@@ -54,14 +50,14 @@ codes_answer b a = cond (is_table b) (256 * codes_of (table_in b) a) no_table
 abbrev pub count_answer : List ℕ → ℕ → ℕ
 count_answer b a = cond (is_table b) (256 * count_of (table_in b) a) no_table
 
--- the last-used code as a number: 65535 is none. `Code` holds one byte, so a number over 255 is
--- taken as 255; like every code over 15 it is refused with 1.
-abbrev pub last_in : ℕ → LastUsed
-last_in n = cond (eqb n 65535) NoCode (Code (min n 255))
+-- the last-used code as a number: 65535 is none. A code is one byte, so a number over 255 is taken
+-- as 255; like every code over 15 it is refused with 1.
+abbrev pub last_in : ℕ → Option ℕ
+last_in n = cond (eqb n 65535) None (Some (min n 255))
 
 -- a choice as one number: the value is the code
-abbrev pub choice_answer : Choice → ℕ
-choice_answer c = choice_number c + 256 * choice_code c
+abbrev pub choice_answer : Result ℕ Refusal → ℕ
+choice_answer c = refusal_number c + 256 * choice_code c
 
 -- the choice for address a; `failed` is the set of the failed codes
 abbrev pub choose_answer : List ℕ → ℕ → ℕ → ℕ → ℕ
@@ -87,12 +83,12 @@ update_checks b list places =
 
 -- the value is the count of the addresses that lost their last code, 0 after a refusal
 unfoldable pub update_answer : List ℕ → List ℕ → ℕ → ℕ
-update_answer b list places = verdict_number (update_checks b list places) + 256 * value_by (update_checks b list places) (update_in b list).count
+update_answer b list places = refusal_number (update_checks b list places) + 256 * value_by (update_checks b list places) (update_in b list).count
 
 -- `written` if the update is done, `kept` if it is refused
 abbrev pub if_done : Verdict → List ℕ → List ℕ → List ℕ
-if_done Done written kept = written
-if_done (Refused why) written kept = kept
+if_done (Ok tt) written kept = written
+if_done (Err why) written kept = kept
 
 -- the table's bytes afterwards
 unfoldable pub update_bytes : List ℕ → List ℕ → ℕ → List ℕ

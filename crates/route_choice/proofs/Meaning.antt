@@ -9,16 +9,13 @@ use native.Mathlib.Omega.{arith}
 use lib.Dec.{eqb}
 use borrow.Author.Tests.{ltb-true, ltb-false, le-ltb, eqb-true, eqb-false, eq-eqb, ne_eqb}
 use Rattle.refusal.specs.declared.Refusal.TheVariants.{OutOfRange, NoInterrogator, AllFailed}
-use Rattle.refusal.specs.declared.Verdict.TheVariants.{Done}
-use Rattle.refusal.specs.Numbers.{number_of, check}
+use Rattle.refusal.specs.Numbers.{number_of, check, refusal_number}
 use Rattle.wordset.specs.Sets.{member, lowest}
 use Rattle.wordset.proofs.Sets.{member-none, no_member, set-laws}
-use Rattle.route_choice.specs.declared.LastUsed.{LastUsed}
-use Rattle.route_choice.specs.declared.LastUsed.TheVariants.{Code, Nothing as NoCode}
-use Rattle.route_choice.specs.declared.Choice.{Choice}
-use Rattle.route_choice.specs.declared.Choice.TheVariants.{Chosen, Refused as NotChosen}
-use Rattle.route_choice.specs.Choosing.{choice_number, choice_code, usable, last_in_range, choose_verdict, chosen_code, choose_by, choose_of}
+use Rattle.route_choice.specs.Choosing.{choice_code, usable, last_in_range, choose_verdict, chosen_code, choose_by, choose_of}
 use Rattle.route_choice.specs.Meaning.{Usable, ChoiceMeans}
+use Rattle.std.specs.Prelude.{Result, Ok, Err, Option, Some, None}
+use Rattle.refusal.specs.declared.Refusal.{Refusal}
 
 -- what is in one set and not in another
 parts : (x y : Bool) → (x && not y) ≡ true → (x ≡ true) × (y ≡ false)
@@ -35,9 +32,9 @@ below-16 : (w : ℕ) → w < 2 ^ 16 → w ≢ 0 → lowest 16 w < 16
 below-16 w h n = (set-laws 16).lowest-below w (omega arith) h
 
 -- a last-used code that is not one of the 16
-over-15 : (last : LastUsed) → last_in_range last ≡ false → (c : ℕ) × (last ≡ Code c) × (15 < c)
-over-15 (Code c) e = (c, refl, ltb-false c 16 e)
-over-15 NoCode e = absurd (true≢false e)
+over-15 : (last : Option ℕ) → last_in_range last ≡ false → (c : ℕ) × (last ≡ Some c) × (15 < c)
+over-15 (Some c) e = (c, refl, ltb-false c 16 e)
+over-15 None e = absurd (true≢false e)
 
 module _ (codes failed : ℕ) where
   pub of-usable : (c : ℕ) → c < 16 → member (usable codes failed) c ≡ true → Usable codes failed c
@@ -55,9 +52,9 @@ module _ (codes failed : ℕ) where
   lowest-usable n = of-usable _ (lowest-lt n) ((set-laws 16).lowest-is (usable codes failed) (lowest-lt n)).in-set
 
   -- the code chosen can be used
-  chosen-usable : (last : LastUsed) → last_in_range last ≡ true → usable codes failed ≢ 0 → Usable codes failed (chosen_code (usable codes failed) last)
-  chosen-usable NoCode g n = lowest-usable n
-  chosen-usable (Code d) g n = go (member (usable codes failed) d) refl
+  chosen-usable : (last : Option ℕ) → last_in_range last ≡ true → usable codes failed ≢ 0 → Usable codes failed (chosen_code (usable codes failed) last)
+  chosen-usable None g n = lowest-usable n
+  chosen-usable (Some d) g n = go (member (usable codes failed) d) refl
     where
       go : (b : Bool) → member (usable codes failed) d ≡ b → Usable codes failed (cond b d (lowest 16 (usable codes failed)))
       go true e = of-usable d (ltb-true d 16 g) e
@@ -94,24 +91,24 @@ module _ (codes failed : ℕ) where
       go false e = absurd (not-empty (usable codes failed) low (is-usable low (l, m, e)) z)
 
   -- where the last-used code cannot be used, the code chosen is the lowest
-  chosen-lowest : (last : LastUsed) → last_in_range last ≡ true → ((e : ℕ) → last ≡ Code e → Usable codes failed e → ⊥)
+  chosen-lowest : (last : Option ℕ) → last_in_range last ≡ true → ((e : ℕ) → last ≡ Some e → Usable codes failed e → ⊥)
       → chosen_code (usable codes failed) last ≡ lowest 16 (usable codes failed)
-  chosen-lowest NoCode g f = refl
-  chosen-lowest (Code d) g f = go (member (usable codes failed) d) refl
+  chosen-lowest None g f = refl
+  chosen-lowest (Some d) g f = go (member (usable codes failed) d) refl
     where
       go : (b : Bool) → member (usable codes failed) d ≡ b → cond b d (lowest 16 (usable codes failed)) ≡ lowest 16 (usable codes failed)
       go true e = absurd (f d refl (of-usable d (ltb-true d 16 g) e))
       go false e = refl
 
-  module _ (last : LastUsed) where
+  module _ (last : Option ℕ) where
     -- what the checks have found if the choice has this result
-    abbrev Found : Choice → Type 0
-    Found (Chosen c) = (last_in_range last ≡ true) × (usable codes failed ≢ 0) × (c ≡ chosen_code (usable codes failed) last)
-    Found (NotChosen why) = cond (eqb (number_of why) 1) (last_in_range last ≡ false) (cond (eqb (number_of why) 8) (codes ≡ 0) ((codes ≢ 0) × (usable codes failed ≡ 0)))
+    abbrev Found : (Result ℕ Refusal) → Type 0
+    Found (Ok c) = (last_in_range last ≡ true) × (usable codes failed ≢ 0) × (c ≡ chosen_code (usable codes failed) last)
+    Found (Err why) = cond (eqb (number_of why) 1) (last_in_range last ≡ false) (cond (eqb (number_of why) 8) (codes ≡ 0) ((codes ≢ 0) × (usable codes failed ≡ 0)))
 
-    abbrev chosen_by : Bool → Bool → Bool → Choice
+    abbrev chosen_by : Bool → Bool → Bool → (Result ℕ Refusal)
     chosen_by g e z =
-        choose_by (check g OutOfRange (check (not e) NoInterrogator (check (not z) AllFailed Done))) (chosen_code (usable codes failed) last)
+        choose_by (check g OutOfRange (check (not e) NoInterrogator (check (not z) AllFailed (Ok tt)))) (chosen_code (usable codes failed) last)
 
     -- the choice by the results of the three tests
     by_tests : (g e z : Bool) → last_in_range last ≡ g → eqb codes 0 ≡ e → eqb (usable codes failed) 0 ≡ z → choose_of codes last failed ≡ chosen_by g e z
@@ -128,48 +125,48 @@ module _ (codes failed : ℕ) where
         go true false true p q r = (eqb-false codes 0 q, eqb-true _ 0 r)
         go true false false p q r = (p, eqb-false _ 0 r, refl)
 
-    pub must-choose : (c : ℕ) → last_in_range last ≡ true → Usable codes failed c → choose_of codes last failed ≡ Chosen (chosen_code (usable codes failed) last)
+    pub must-choose : (c : ℕ) → last_in_range last ≡ true → Usable codes failed c → choose_of codes last failed ≡ Ok (chosen_code (usable codes failed) last)
     must-choose c g u =
         by_tests true false false g (ne_eqb codes 0 (not-empty codes c u.1))
         (ne_eqb (usable codes failed) 0 (not-empty (usable codes failed) c (is-usable c u)))
 
     -- each refusal is given where its reason holds
-    pub gives-range : last_in_range last ≡ false → choose_of codes last failed ≡ NotChosen OutOfRange
+    pub gives-range : last_in_range last ≡ false → choose_of codes last failed ≡ Err OutOfRange
     gives-range g = by_tests false _ _ g refl refl
 
-    pub gives_none : last_in_range last ≡ true → codes ≡ 0 → choose_of codes last failed ≡ NotChosen NoInterrogator
+    pub gives_none : last_in_range last ≡ true → codes ≡ 0 → choose_of codes last failed ≡ Err NoInterrogator
     gives_none g e = by_tests true true _ g (eq-eqb codes 0 e) refl
 
-    pub gives-failed : last_in_range last ≡ true → codes ≢ 0 → usable codes failed ≡ 0 → choose_of codes last failed ≡ NotChosen AllFailed
+    pub gives-failed : last_in_range last ≡ true → codes ≢ 0 → usable codes failed ≡ 0 → choose_of codes last failed ≡ Err AllFailed
     gives-failed g n e = by_tests true false true g (ne_eqb codes 0 n) (eq-eqb _ 0 e)
 
-none_named : (c : Choice) → choice_number c ≢ 0 → choice_code c ≡ 0
-none_named (Chosen code) h = absurd (h refl)
-none_named (NotChosen why) h = refl
+none_named : (c : Result ℕ Refusal) → refusal_number c ≢ 0 → choice_code c ≡ 0
+none_named (Ok code) h = absurd (h refl)
+none_named (Err why) h = refl
 
 pub choice-means : ChoiceMeans
 choice-means codes last failed = record {
   can-be-used = λ c e.
-      let w = was (Chosen c) e in
+      let w = was (Ok c) e in
       subst (Usable codes failed) (sym w.2) (chosen-usable codes failed last w.0 w.1);
   last-used-first = λ c d l u e.
-      (was (Chosen c) e).2 ∙ ap (chosen_code (usable codes failed)) l
+      (was (Ok c) e).2 ∙ ap (chosen_code (usable codes failed)) l
       ∙ ap (λ (b : Bool). cond b d (lowest 16 (usable codes failed))) (is-usable codes failed d u);
   else-lowest = λ c d f e u b.
-      let w = was (Chosen c) e in
+      let w = was (Ok c) e in
       none-lower codes failed w.1 d u (subst (λ (x : ℕ). d < x) (w.2 ∙ chosen-lowest codes failed last w.0 f) b);
-  out_of_range = λ e. over-15 last (was (NotChosen OutOfRange) e);
+  out_of_range = λ e. over-15 last (was (Err OutOfRange) e);
   out-of-range-given = λ c l h. gives-range codes failed last (ap last_in_range l ∙ le-ltb c 16 h);
-  no-interrogator = λ e c m. not-empty codes c m (was (NotChosen NoInterrogator) e);
+  no-interrogator = λ e c m. not-empty codes c m (was (Err NoInterrogator) e);
   no-interrogator-given = λ g f. gives_none codes failed last g (no_member codes f);
-  all-failed = λ e c u. not-empty (usable codes failed) c (is-usable codes failed c u) (was (NotChosen AllFailed) e).1;
+  all-failed = λ e c u. not-empty (usable codes failed) c (is-usable codes failed c u) (was (Err AllFailed) e).1;
   all-failed-present = λ h e.
-      let w = was (NotChosen AllFailed) e in
+      let w = was (Err AllFailed) e in
       present-failed codes failed h w.0 w.1;
   all-failed-given = λ c g m f. gives-failed codes failed last g (not-empty codes c m) (none-usable codes failed f);
   none_named = none_named (choose_of codes last failed);
   always = λ c g u. (chosen_code (usable codes failed) last, must-choose codes failed last c g u);
 }
   where
-    was : (r : Choice) → choose_of codes last failed ≡ r → Found codes failed last r
+    was : (r : Result ℕ Refusal) → choose_of codes last failed ≡ r → Found codes failed last r
     was r e = subst (Found codes failed last) e (found codes failed last)

@@ -10,17 +10,17 @@ use native.Mathlib.Omega.{arith}
 use lib.ListN.{length, take, drop}
 use Rattle.frame_form.specs.declared.Form.{Form}
 use Rattle.frame_form.specs.Forms.{form_valid}
-use Rattle.frame.specs.declared.Read.{Read}
 use Rattle.frame.specs.Writing.{fits, frame_of}
 use Rattle.frame.specs.Reading.{read_of, sn_in}
 use Rattle.message.specs.declared.cutting.Start.{Start}
 use Rattle.message.specs.Cutting.{share_of, full_frames, data_of, next_start, frames_from, frames_of}
-use Rattle.message.proofs.Sizes.{share-range}
+use Rattle.message.proofs.Sizes.{share_range}
 use Rattle.message_claims.proofs.Shares.{shares-hold}
 use Rattle.message_claims.proofs.Starts.{next_fits}
 use Rattle.message_claims.proofs.Cutting.{share-reads, share-taken, share-left, one-share}
 use Rattle.transfer_claims.specs.Circuit.{Message, message_start, start_after, frames_sent, frame_at, more_follows, parted}
 use Rattle.transfer_claims.specs.Claims.{AllSendable}
+use Rattle.frame.specs.Packets.{Read}
 
 -- ---- sequence numbers
 
@@ -100,7 +100,7 @@ module _ (form : Form) (good : form_valid form ≡ true) where
 
   module _ (s : Start) (message : List ℕ) (fit : fits form (data_of s false) 0 ≡ true) where
     enough : length message ≤ suc (full_frames (share_of form) (length message)) * share_of form
-    enough = let some : 1 ≤ share_of form = omega (arith, (share-range form good).0) in shares-hold (share_of form) (length message) some
+    enough = let some : 1 ≤ share_of form = omega (arith, (share_range form good).0) in shares-hold (share_of form) (length message) some
 
     pub numbered-one : (n : ℕ) → s.sn.0 ≡ n % 64 → Numbered form n (frames_of form s message)
     unfolding frames_of

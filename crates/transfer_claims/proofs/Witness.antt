@@ -12,14 +12,13 @@ use Rattle.frame_reader.specs.Reading.{read_checks}
 use Rattle.frame_writer.specs.Writing.{values_fit, frame_by}
 use Rattle.frame.specs.Writing.{fits}
 use Rattle.frame.specs.Reading.{read_of, sn_in}
-use Rattle.message.specs.declared.cutting.Cut.TheVariants.{Frames}
-use Rattle.message.specs.Cutting.{data_of, full_frames, frames_from, frames_of, cut_verdict, cut_of}
+use Rattle.message.specs.Cutting.{data_of, full_frames, frames_from, frames_of, cut_verdict, cut_of, cut_into}
 use Rattle.transfer_claims.specs.Circuit.{frame_at}
 use Rattle.transfer_claims.specs.Claims.{FramesAllowedList, Complete, one_by_one}
 use Rattle.transfer_claims.specs.Witness.{one_segment, first_numbers, many_bytes, PastSixtyThree}
 use Rattle.transfer_claims.proofs.Claims.{transfer}
 
-answer : cut_of one_segment first_numbers many_bytes 650 65 ≡ Frames 65 650
+answer : cut_of one_segment first_numbers many_bytes 650 65 ≡ cut_into 65 650
 unfolding padding last_used framed values_fit frame_by full_frames frames_from frames_of cut_verdict cut_of
 answer = refl
 

@@ -3,12 +3,9 @@
 -- divided into messages. Document 01, "Cutting and joining" and "The resequencer". The quotes are
 -- from the request for the claims (specs/Claims.antt).
 -- Assumes nothing.
-use Rattle.std.specs.Prelude.{Bool, false, cond, List, [], ◌∷◌, ◌++◌, map, ℕ, get_or}
+use Rattle.std.specs.Prelude.{Bool, false, cond, List, [], ◌∷◌, ◌++◌, map, ℕ, get_or, Option, Some, None}
 use Rattle.frame_form.specs.declared.Form.{Form}
 use Rattle.sequence.specs.declared.PacketNumber.{PacketNumber}
-use Rattle.frame.specs.declared.MaybeData.{MaybeData}
-use Rattle.frame.specs.declared.MaybeData.TheVariants.{Nothing, Data as SomeData}
-use Rattle.frame.specs.declared.Read.{Read}
 use Rattle.frame.specs.Reading.{read_of, data_in, sn_in}
 use Rattle.message.specs.declared.cutting.Start.{Start}
 use Rattle.message.specs.Cutting.{next_start, frames_of}
@@ -17,6 +14,8 @@ use Rattle.resequencer.specs.declared.Answer.{Answer}
 use Rattle.resequencer.specs.State.{fresh_state}
 use Rattle.resequencer.specs.Events.{handed, arrive_of, clock_end_of}
 use Rattle.resequencer_claims.specs.Events.{Event, packet, stray, clock_end}
+use Rattle.frame.specs.Packets.{Read}
+use Rattle.frame.specs.declared.Data.{Data as DataFields}
 
 -- ---- sent
 
@@ -69,9 +68,9 @@ frames_handed_on form frames es = map (frame_at frames) (places_handed_on form f
 
 -- whether M is 1 in a frame that was read: more of its message follows; false if it is no DATA
 -- frame
-abbrev pub m_of : MaybeData → Bool
-m_of Nothing = false
-m_of (SomeData d) = d.m
+abbrev pub m_of : Option DataFields → Bool
+m_of None = false
+m_of (Some d) = d.m
 
 abbrev pub more_follows : Read → Bool
 more_follows r = m_of (data_in r)

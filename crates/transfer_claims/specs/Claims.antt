@@ -5,7 +5,7 @@
 -- the long forms these are what cutting writes (`cut`); in the short form, which is no longer cut
 -- (document 02, Q-14), what a site that still has it sends. proofs/Claims.antt proves them.
 -- Assumes nothing.
-use Rattle.std.specs.Prelude.{◌≡◌, Bool, true, false, List, [], ◌∷◌, ◌++◌, ℕ, zero, suc, ◌+◌, ◌≤◌, ◌<◌, length}
+use Rattle.std.specs.Prelude.{◌≡◌, Bool, true, false, List, [], ◌∷◌, ◌++◌, ℕ, zero, suc, ◌+◌, ◌≤◌, ◌<◌, length, Ok, Err}
 use Rattle.refusal.specs.declared.Refusal.{Refusal}
 use Rattle.lists.specs.Lists.{over}
 use Rattle.lists.specs.Frames.{bytes_in, lengths_of}
@@ -14,11 +14,9 @@ use Rattle.frame_form.specs.Forms.{form_valid, is_long}
 use Rattle.frame.specs.Writing.{fits}
 use Rattle.message.specs.declared.cutting.Start.{Start}
 use Rattle.message.specs.Cutting.{data_of, frames_of}
-use Rattle.message.specs.declared.joining.Joined.TheVariants.{Bytes}
 use Rattle.message.specs.Joining.{join_of, join_output}
 use Rattle.message_claims.specs.Claims.{IsCut}
 use Rattle.resequencer.specs.declared.Resequencer.{Resequencer}
-use Rattle.resequencer.specs.declared.Outcome.TheVariants.{Refused}
 use Rattle.resequencer.specs.State.{fresh_state}
 use Rattle.resequencer.specs.Events.{arrive_of, clock_end_of}
 use Rattle.resequencer_claims.specs.Events.{Event, packet, stray, clock_end, nothing, more, arrived}
@@ -53,8 +51,8 @@ pub record Sent (form : Form) (s : Start) (ms : List Message) : Type 0 where
 -- arrivals between".
 abbrev pub AllowedEvent : List (List ℕ) → Resequencer → (ℕ → Bool) → Event → Type 0
 AllowedEvent frames s has (packet n) = (n < length frames) × ((expected : ℕ) → Lowest has expected → (expected ≤ n + 32) × (n ≤ expected + 31))
-AllowedEvent frames s has (stray sn ticket) = (why : Refusal) × ((arrive_of s sn ticket).outcome ≡ Refused why)
-AllowedEvent frames s has (clock_end sn) = (why : Refusal) × ((clock_end_of s sn).outcome ≡ Refused why)
+AllowedEvent frames s has (stray sn ticket) = (why : Refusal) × ((arrive_of s sn ticket).outcome ≡ Err why)
+AllowedEvent frames s has (clock_end sn) = (why : Refusal) × ((clock_end_of s sn).outcome ≡ Err why)
 
 -- a list of such events, each in the state that the answer before it returned
 unfoldable pub FramesAllowed : Form → List (List ℕ) → Resequencer → (ℕ → Bool) → List Event → Type 0
@@ -76,7 +74,7 @@ Complete frames es = (n : ℕ) → n < length frames → arrived es n ≡ true
 -- rest as before
 abbrev pub JoinTo : Form → List (List ℕ) → List ℕ → Type 0
 JoinTo form fs message = (out : List ℕ) → length message ≤ length out
-    → (join_of form (lengths_of fs) (bytes_in fs) (length out) ≡ Bytes (length message))
+    → (join_of form (lengths_of fs) (bytes_in fs) (length out) ≡ Ok (length message))
     × (join_output form (lengths_of fs) (bytes_in fs) out ≡ over message out)
 
 -- there are as many runs of frames as messages, and each run gives the message at its place

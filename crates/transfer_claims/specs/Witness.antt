@@ -8,8 +8,7 @@ use Rattle.frame_form.specs.declared.Form.{Form}
 use Rattle.frame_form.specs.declared.Form.TheVariants.{LongDownlink}
 use Rattle.frame.specs.Reading.{read_of, sn_in}
 use Rattle.message.specs.declared.cutting.Start.{Start}
-use Rattle.message.specs.declared.cutting.Cut.TheVariants.{Frames}
-use Rattle.message.specs.Cutting.{frames_of, cut_of}
+use Rattle.message.specs.Cutting.{frames_of, cut_of, cut_into}
 use Rattle.transfer_claims.specs.Circuit.{frame_at, frames_handed_on}
 use Rattle.transfer_claims.specs.Claims.{FramesAllowedList, JoinTo, one_by_one}
 
@@ -27,7 +26,7 @@ many_bytes = replicate 449 7
 
 pub record PastSixtyThree : Type 0 where
   -- cutting answers with 65 frames; the last two have SN 63 and SN 0
-  pub answer : cut_of one_segment first_numbers many_bytes 650 65 ≡ Frames 65 650
+  pub answer : cut_of one_segment first_numbers many_bytes 650 65 ≡ cut_into 65 650
   pub last-number : sn_in (read_of one_segment (frame_at (frames_of one_segment first_numbers many_bytes) 63)) ≡ 63
   pub first-again : sn_in (read_of one_segment (frame_at (frames_of one_segment first_numbers many_bytes) 64)) ≡ 0
   -- they may arrive one by one, and then the message comes out

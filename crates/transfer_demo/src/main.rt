@@ -4,13 +4,10 @@
 // printed.
 //
 // The last thing that it does is to write a mark to descriptor 3, from which tools/run-proved makes
-// a status: `done` if the whole message was read and all was printed, `refused` if besides the
-// message was too long, `input` if a read failed, `left` if nobody reads the report any more,
-// `output` if another write failed. Where descriptor 3 is no pipe, nothing is written to it. `good`
-// is true as long as no read and no write has failed; after that nothing is read or printed.
+// a status; `Ending` has the marks. Where descriptor 3 is no pipe, nothing is written to it.
 #![tactic(auto)]
 
-ghost use Rattle.std.specs.Prelude.{◌≡◌, true, List, [], map, ℕ, ◌+◌, ◌≤◌, ◌<◌, min, length, take};
+ghost use Rattle.std.specs.Prelude.{◌≡◌, true, List, [], map, ℕ, ◌+◌, ◌≤◌, ◌<◌, min, length};
 ghost use Rattle.lists.specs.Frames.{parts_of};
 ghost use Rattle.frame.specs.Reading.{read_of, sn_in};
 ghost use Rattle.resequencer.specs.Events.{handed, arrive_of};
@@ -19,21 +16,19 @@ ghost use Rattle.transfer_claims.specs.Rule.{demo_form, call_at, takes_place, al
 ghost use Rattle.transfer_demo.specs.Calls.{event_of};
 ghost use Rattle.transfer_demo.specs.Kept.{keep_one, keep_all, Holds};
 
-use frame::Read;
+mod output;
+
+use frame::Contents;
 use frame_form::Form;
-use message::cutting::{Cut, Start};
-use message::joining::Joined;
+use message::cutting::Start;
+use output::Printer;
+use refusal::Fault;
 use resequencer::{Answer, Outcome, Resequencer};
 use sequence::{LinkNumber, PacketNumber};
-use std::fs::OpenOptions;
-use std::io::{ErrorKind, Read as Reader, Write};
-use std::os::unix::fs::FileTypeExt;
-use std::{fs, io};
-use wordset::set64;
 
 // What happens on the link: the frame at a place of the list arrives; something else arrives, with
 // an SN over 63; or the clock of an SN ends.
-#[derive(Clone, Copy)]
+#[derive(Clone, Copy, Debug, PartialEq, Eq)]
 enum Event {
     Frame(usize),
     Stray(u8),
@@ -41,7 +36,7 @@ enum Event {
 }
 
 // How much has been handed on: the number of frames, and the sum of their bytes.
-#[derive(Clone, Copy)]
+#[derive(Clone, Copy, Debug, PartialEq, Eq)]
 struct Handed {
     frames: usize,
     bytes: usize,
@@ -51,51 +46,14 @@ fn main(rt: HostRuntime) {
     let mut message = [0u8; 4097];
     let mut frames = [0u8; 4592];
     let mut lengths = [0usize; 164];
-    let mut good = true;
-    let n = read_all(&rt, &mut message, &mut good);
-    carry(&rt, &message[..n], &mut frames, &mut lengths, &mut good);
-    if good {
-        mark(&rt, b"done\n");
-    }
-}
-
-// Reads until the buffer is full or the input has ended, and returns how many bytes were read.
-fn read_all(rt: &HostRuntime, message: &mut [u8], good: &mut bool) -> usize
-    ensures { result ≤ length message.old }
-{
-    let mut n = 0;
-    while n < message.len() {
-        let came = read_some(rt, &mut message[n..], good);
-        if came == 0 {
-            return n;
-        }
-        n += came;
-    }
-    n
-}
-
-// Reads once: 0 bytes at the end of the input, or if the read failed.
-fn read_some(rt: &HostRuntime, rest: &mut [u8], good: &mut bool) -> usize
-    ensures { result ≤ length rest.old }
-{
-    match rt.stdin().read(rest) {
-        Ok(came) => came,
-        Err(_) => {
-            mark(rt, b"input\n");
-            *good = false;
-            0
-        }
-    }
+    let mut out = Printer::new(&rt);
+    let n = out.read_all(&mut message);
+    carry(&mut out, &message[..n], &mut frames, &mut lengths);
+    output::mark(&rt, out.ending());
 }
 
 // Cuts the message from SN 0 and sends the frames across the link.
-fn carry(
-    rt: &HostRuntime,
-    message: &[u8],
-    frames: &mut [u8],
-    lengths: &mut [usize],
-    good: &mut bool,
-)
+fn carry(out: &mut Printer, message: &[u8], frames: &mut [u8], lengths: &mut [usize])
     requires { length lengths.old ≤ 164 }
 {
     let start = Start {
@@ -106,50 +64,34 @@ fn carry(
     };
     let cut = message::cutting::cut_message(Form::LongDownlink(3), start, message, frames, lengths);
     match cut {
-        Cut::Frames(count, bytes) => {
-            number(rt, message.len(), good);
-            text(rt, b" bytes, frames: ", good);
-            number(rt, count, good);
-            text(rt, b"\n", good);
-            cross(rt, message, &lengths[..count], &frames[..bytes], good);
+        Ok(made) => {
+            out.number(message.len());
+            out.text(b" bytes, frames: ");
+            out.number(made.frames);
+            out.text(b"\n");
+            cross(out, message, &lengths[..made.frames], &frames[..made.bytes]);
         }
-        Cut::Refused(why) => {
-            // the numbers are in range and the lists have room for every message: only 4 is
-            // possible
-            text(rt, b"refused ", good);
-            number(rt, why.number() as usize, good);
-            text(rt, b": a message has 4,096 bytes at most\n", good);
-            refuse(rt, good);
-        }
-    }
-}
-
-// Ends a run whose message was refused, with the mark that says so.
-fn refuse(rt: &HostRuntime, good: &mut bool) {
-    if *good {
-        mark(rt, b"refused\n");
-        *good = false;
+        // the numbers are in range and the lists have room for every message: only 4 is possible
+        Err(why) => out.refuse(why),
     }
 }
 
 // Lets the frames arrive, joins those that are handed on, and prints whether this gives the
 // message.
-fn cross(rt: &HostRuntime, message: &[u8], lengths: &[usize], frames: &[u8], good: &mut bool)
+fn cross(out: &mut Printer, message: &[u8], lengths: &[usize], frames: &[u8])
     requires { length lengths.now ≤ 164 }
 {
     let mut received = [0u8; 4592];
     let mut sizes = [0usize; 164];
-    let handed = receive(rt, lengths, frames, &mut received, &mut sizes, good);
-    let count = handed.frames;
-    let bytes = handed.bytes;
+    let handed = receive(out, lengths, frames, &mut received, &mut sizes);
     let mut joined = [0u8; 4096];
     let answer = message::joining::join_frames(
         Form::LongDownlink(3),
-        &sizes[..count],
-        &received[..bytes],
+        &sizes[..handed.frames],
+        &received[..handed.bytes],
         &mut joined,
     );
-    tell_joined(rt, answer, message, &joined, good);
+    tell_joined(out, answer, message, &joined);
 }
 
 // ---- the link
@@ -185,20 +127,18 @@ fn happens(event: Event, count: usize) -> bool
 {
     match event {
         Event::Frame(place) => place < count,
-        Event::Stray(_sn) => true,
-        Event::ClockEnd(_sn) => true,
+        Event::Stray(_) | Event::ClockEnd(_) => true,
     }
 }
 
 // Goes through all events. The frames that are handed on are stored one after the other in
 // `received`, and their lengths in `sizes`.
 fn receive(
-    rt: &HostRuntime,
+    out: &mut Printer,
     lengths: &[usize],
     frames: &[u8],
     received: &mut [u8],
     sizes: &mut [usize],
-    good: &mut bool,
 ) -> Handed
     requires { length lengths.now ≤ 164 }
     ensures { Holds received.new sizes.new result (keep_all (length received.old) (length sizes.old) []
@@ -210,18 +150,15 @@ fn receive(
         frames: 0,
         bytes: 0,
     };
-    let mut i = 0;
-    while i < steps {
+    for i in 0..steps {
         let event = event_at(i);
-        i = i + 1;
-        if happens(event, lengths.len()) {
-            let answer = answer_to(state, event, lengths, frames);
-            tell(rt, event, answer, good);
-            let more = hand_on(answer, lengths, frames, received, sizes, handed);
-            handed = more;
-            let next = answer.next;
-            state = next;
+        if !happens(event, lengths.len()) {
+            continue;
         }
+        let answer = answer_to(state, event, lengths, frames);
+        tell(out, event, answer);
+        handed = hand_on(answer, lengths, frames, received, sizes, handed);
+        state = answer.next;
     }
     handed
 }
@@ -249,16 +186,12 @@ fn arrive(state: Resequencer, frame: &[u8], place: usize) -> Answer
 
 // The SN of the packet that was read; 64, which its field cannot hold, of a ROUTE, which has none,
 // and if the frame was refused.
-fn number_of(read: Read) -> u8
+fn number_of(read: Result<Contents, Fault>) -> u8
     ensures { result ≡ sn_in read }
 {
     match read {
-        Read::Packet(packet, _place) => {
-            let sn = packet.sn();
-            sn.0
-        }
-        Read::Route(_route) => 64,
-        Read::Refused(_why, _at) => 64,
+        Ok(Contents::Packet(packet, _place)) => packet.sn().0,
+        Ok(Contents::Route(_)) | Err(_) => 64,
     }
 }
 
@@ -267,14 +200,12 @@ fn frame_at<'a>(lengths: &[usize], frames: &'a [u8], place: usize) -> &'a [u8]
     ensures { result.now ≡ frame_at (parts_of lengths.now frames.now) place }
 {
     let mut at = 0;
-    let mut i = 0;
-    while i < lengths.len() {
+    for i in 0..lengths.len() {
         let end = part_end(at, lengths[i], frames.len());
         if i == place {
             return &frames[at..end];
         }
         at = end;
-        i = i + 1;
     }
     &frames[..0]
 }
@@ -291,8 +222,7 @@ fn part_end(at: usize, n: usize, all: usize) -> usize
 fn count_handed(answer: Answer) -> usize
     ensures { (result ≡ length (handed answer)) × (result ≤ 32) }
 {
-    let count = answer.count as usize;
-    if count < 32 { count } else { 32 }
+    (answer.count as usize).min(32)
 }
 
 // Stores the frames that an answer hands on, in the order of its tickets, after those stored
@@ -311,15 +241,11 @@ fn hand_on(
         → Holds received.new sizes.new result (keep_all (length received.old) (length sizes.old) ks
         (map (frame_at (parts_of lengths.now frames.now)) (handed answer))) }
 {
-    let tickets = answer.tickets;
     let count = count_handed(answer);
     let mut kept = before;
-    let mut i = 0;
-    while i < count {
-        let place = tickets[i] as usize;
-        let next = keep(frame_at(lengths, frames, place), received, sizes, kept);
-        kept = next;
-        i = i + 1;
+    for i in 0..count {
+        let place = answer.tickets[i] as usize;
+        kept = keep(frame_at(lengths, frames, place), received, sizes, kept);
     }
     kept
 }
@@ -350,155 +276,85 @@ fn keep(frame: &[u8], received: &mut [u8], sizes: &mut [usize], kept: Handed) ->
 
 // ---- what is printed
 
-// Writes the mark, if descriptor 3 is a pipe. It is opened anew by its name, which would write over
-// a file: so nothing else is opened.
-fn mark(rt: &HostRuntime, text: &[u8]) {
-    if let Ok(found) = fs::metadata(rt, "/dev/fd/3") {
-        if found.file_type().is_fifo() {
-            if let Ok(mut file) = OpenOptions::new().write(true).open(rt, "/dev/fd/3") {
-                let _ = file.write_all(text);
-            }
-        }
-    }
-}
-
-// Writes the mark of a write that failed: nobody reads the report any more, or it cannot be
-// written.
-fn unwritten(rt: &HostRuntime, why: io::Error) {
-    match why.kind() {
-        ErrorKind::BrokenPipe => mark(rt, b"left\n"),
-        _ => mark(rt, b"output\n"),
-    }
-}
-
-// Prints bytes.
-fn text(rt: &HostRuntime, bytes: &[u8], good: &mut bool) {
-    if *good {
-        if let Err(why) = rt.write_all(bytes) {
-            unwritten(rt, why);
-            *good = false;
-        }
-    }
-}
-
-// Prints a number in decimal.
-fn number(rt: &HostRuntime, n: usize, good: &mut bool) {
-    if *good {
-        if let Err(why) = rt.print(n) {
-            unwritten(rt, why);
-            *good = false;
-        }
-    }
-}
-
-// Prints one number of a list.
-fn listed(rt: &HostRuntime, n: usize, good: &mut bool) {
-    text(rt, b" ", good);
-    number(rt, n, good);
-}
-
 // Prints one event: what arrived or ended, the outcome, and the held numbers and running clocks
 // afterwards.
-fn tell(rt: &HostRuntime, event: Event, answer: Answer, good: &mut bool) {
+fn tell(out: &mut Printer, event: Event, answer: Answer) {
     match event {
         Event::Frame(place) => {
-            text(rt, b"frame ", good);
-            number(rt, place, good);
-            text(rt, b" SN ", good);
-            number(rt, place % 64, good);
+            out.text(b"frame ");
+            out.number(place);
+            out.text(b" SN ");
+            out.number(place % 64);
         }
         Event::Stray(sn) => {
-            text(rt, b"stray SN ", good);
-            number(rt, sn as usize, good);
+            out.text(b"stray SN ");
+            out.number(sn as usize);
         }
         Event::ClockEnd(sn) => {
-            text(rt, b"clock end ", good);
-            number(rt, sn as usize, good);
+            out.text(b"clock end ");
+            out.number(sn as usize);
         }
     }
-    tell_outcome(rt, answer, good);
-    let next = answer.next;
-    tell_set(rt, b"; held", next.held, good);
-    tell_set(rt, b"; clocks", next.clocks, good);
-    text(rt, b"\n", good);
+    tell_outcome(out, answer);
+    tell_set(out, b"; held", answer.next.held);
+    tell_set(out, b"; clocks", answer.next.clocks);
+    out.text(b"\n");
 }
 
 // Prints the numbers of a set.
-fn tell_set(rt: &HostRuntime, title: &[u8], set: u64, good: &mut bool) {
-    text(rt, title, good);
+fn tell_set(out: &mut Printer, title: &[u8], set: u64) {
+    out.text(title);
     if set == 0 {
-        text(rt, b" -", good);
+        out.text(b" -");
     }
-    let mut left = set;
-    while left != 0 {
-        listed(rt, set64::lowest(left) as usize, good);
-        left = set64::without_lowest(left);
+    for number in 0..64 {
+        if wordset::member(set, number) {
+            out.listed(number as usize);
+        }
     }
 }
 
 // Prints the outcome of an event: what is handed on, or why nothing is.
-fn tell_outcome(rt: &HostRuntime, answer: Answer, good: &mut bool) {
-    let outcome = answer.outcome;
-    match outcome {
-        Outcome::HandedOn => {
-            text(rt, b": hands on", good);
-            tell_tickets(rt, answer, good);
+fn tell_outcome(out: &mut Printer, answer: Answer) {
+    match answer.outcome {
+        Ok(Outcome::HandedOn) => {
+            out.text(b": hands on");
+            tell_tickets(out, answer);
         }
-        Outcome::Held => text(rt, b": early", good),
-        Outcome::Old => text(rt, b": old", good),
-        Outcome::Duplicate => text(rt, b": duplicate", good),
-        Outcome::Refused(why) => {
-            text(rt, b": refused ", good);
-            number(rt, why.number() as usize, good);
+        Ok(Outcome::Held) => out.text(b": early"),
+        Ok(Outcome::Old) => out.text(b": old"),
+        Ok(Outcome::Duplicate) => out.text(b": duplicate"),
+        Err(why) => {
+            out.text(b": refused ");
+            out.number(why.number() as usize);
         }
     }
 }
 
 // Prints the places of the frames that are handed on, which are their tickets.
-fn tell_tickets(rt: &HostRuntime, answer: Answer, good: &mut bool) {
-    let tickets = answer.tickets;
+fn tell_tickets(out: &mut Printer, answer: Answer) {
     let count = count_handed(answer);
-    let mut i = 0;
-    while i < count {
-        listed(rt, tickets[i] as usize, good);
-        i = i + 1;
+    for i in 0..count {
+        out.listed(answer.tickets[i] as usize);
     }
 }
 
 // Prints whether the message that was joined is the one that was sent.
-fn tell_joined(rt: &HostRuntime, answer: Joined, message: &[u8], joined: &[u8], good: &mut bool) {
+fn tell_joined(out: &mut Printer, answer: Result<usize, Fault>, message: &[u8], joined: &[u8]) {
     match answer {
-        Joined::Bytes(n) => {
-            text(rt, b"joined ", good);
-            number(rt, n, good);
-            if n == message.len() && is_front(message, joined) {
-                text(rt, b" bytes: the message\n", good);
+        Ok(n) => {
+            out.text(b"joined ");
+            out.number(n);
+            if n == message.len() && joined.starts_with(message) {
+                out.text(b" bytes: the message\n");
             } else {
-                text(rt, b" bytes: not the message\n", good);
+                out.text(b" bytes: not the message\n");
             }
         }
-        Joined::Refused(why, _at) => {
-            text(rt, b"not joined: refused ", good);
-            number(rt, why.number() as usize, good);
-            text(rt, b"\n", good);
+        Err(fault) => {
+            out.text(b"not joined: refused ");
+            out.number(fault.why.number() as usize);
+            out.text(b"\n");
         }
     }
-}
-
-// Whether `all` begins with `bytes`.
-fn is_front(bytes: &[u8], all: &[u8]) -> bool
-    ensures { (result ≡ true → take (length bytes.now) all.now ≡ bytes.now)
-        × (take (length bytes.now) all.now ≡ bytes.now → result ≡ true) }
-{
-    if all.len() < bytes.len() {
-        return false;
-    }
-    let mut i = 0;
-    while i < bytes.len() {
-        if bytes[i] != all[i] {
-            return false;
-        }
-        i = i + 1;
-    }
-    true
 }

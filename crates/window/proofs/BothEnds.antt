@@ -10,17 +10,17 @@ use mathlib.Core.List.{List, [], ◌∷◌, ◌++◌, map}
 use Prim.Native.Nat.{ℕ, zero, suc, ◌+◌, ◌%◌, ◌≤◌, zero-le}
 use native.Mathlib.Omega.{arith}
 use lib.ListN.{length, replicate}
+use Rattle.std.specs.Prelude.{Ok}
+use Rattle.refusal.specs.Numbers.{refusal_number}
+use Rattle.sequence.specs.declared.PacketNumber.{PacketNumber}
+use Rattle.sequence.specs.Numbers.{packet}
 use Rattle.window.specs.declared.sender.Sender.{Sender}
 use Rattle.window.specs.declared.sender.Sent.{Sent}
 use Rattle.window.specs.declared.sender.Acknowledged.{Acknowledged}
 use Rattle.window.specs.declared.receiver.Received.{Received}
 use Rattle.window.specs.declared.receiver.Told.{Told}
-use Rattle.refusal.specs.declared.Verdict.TheVariants.{Done}
-use Rattle.refusal.specs.Numbers.{verdict_number}
-use Rattle.sequence.specs.declared.PacketNumber.{PacketNumber}
-use Rattle.sequence.specs.Numbers.{packet}
 use Rattle.window.specs.Sending.{fresh_sender, send_of}
-use Rattle.window.specs.Receiving.{fresh_receiver, receiver_in_order, receipt_number}
+use Rattle.window.specs.Receiving.{fresh_receiver, receiver_in_order}
 use Rattle.window.specs.History.{Carrier, pr_of, note_grant}
 use Rattle.window.specs.BothEnds.{OnTheWay, Flow, FlowEvent, grant, deliver, tell, deliver_pr, note_telling, delivered, delivered_pr, flow_step, flow_run, NoneRefused}
 use Rattle.window.proofs.Ends.{sender_at, SendCases, send-cases, mark_after, pr-taken, taken-good, fresh-good, tell-told, tell-good, receive-taken}
@@ -167,7 +167,7 @@ deliver-keeps f k = subst (λ (l : List ℕ). Kept (delivered f l)) (sym k.packe
           tellings-are = k.tellings-are;
           rising = rising-wider k.acknowledged k.taken (suc k.taken) k.told (omega arith) k.rising;
           all_done =
-              subst (λ (x : ℕ). AllDone (f.numbers ++ (x ∷ []))) (sym (ap (λ (a : Received). receipt_number a.answer) r)) (done_more f.numbers k.all_done);
+              subst (λ (x : ℕ). AllDone (f.numbers ++ (x ∷ []))) (sym (ap (λ (a : Received). refusal_number a.answer) r)) (done_more f.numbers k.all_done);
         }
 
 tell-keeps : (f : Flow) (carrier : Carrier) → Kept f → Kept (flow_step f (tell carrier))
@@ -201,7 +201,7 @@ deliver_pr-keeps f k = subst (λ (l : List OnTheWay). Kept (delivered_pr f l)) (
         let far : t.count ≤ k.taken = rising-ends t.count k.taken ts h.1 in
         let near : k.acknowledged ≤ t.count = h.0 in
         let after : Bool = mark_after t.carrier k.held in
-        let r : pr_of t.carrier f.sender (t.count % 16) ≡ record { verdict = Done; next = sender_at t.count (k.taken + k.on-the-way) after } =
+        let r : pr_of t.carrier f.sender (t.count % 16) ≡ record { verdict = Ok tt; next = sender_at t.count (k.taken + k.on-the-way) after } =
         ap (λ (s : Sender). pr_of t.carrier s (t.count % 16)) k.sender-at
         ∙ pr-taken t.carrier k.acknowledged t.count (k.taken + k.on-the-way) k.held near (omega arith) k.window in
         record {
@@ -218,7 +218,7 @@ deliver_pr-keeps f k = subst (λ (l : List OnTheWay). Kept (delivered_pr f l)) (
           tellings-are = refl;
           rising = h.1;
           all_done =
-              subst (λ (x : ℕ). AllDone (f.numbers ++ (x ∷ []))) (sym (ap (λ (a : Acknowledged). verdict_number a.verdict) r)) (done_more f.numbers k.all_done);
+              subst (λ (x : ℕ). AllDone (f.numbers ++ (x ∷ []))) (sym (ap (λ (a : Acknowledged). refusal_number a.verdict) r)) (done_more f.numbers k.all_done);
         }
 
 step_keeps : (f : Flow) (e : FlowEvent) → Kept f → Kept (flow_step f e)

@@ -10,20 +10,17 @@ use mathlib.Core.Logic.{◌⊎◌, inl, inr}
 use native.Mathlib.Omega.{arith}
 use lib.Dec.{leb, eqb, lit<}
 use borrow.Author.Tests.{le-leb, lt-ltb, eq-eqb, leb-true, ltb-true, eqb-true}
-use Rattle.refusal.specs.declared.Verdict.{Verdict}
-use Rattle.refusal.specs.declared.Verdict.TheVariants.{Done, Refused}
+use Rattle.std.specs.Prelude.{Ok, Err}
 use Rattle.refusal.specs.declared.Refusal.{Refusal}
 use Rattle.refusal.specs.declared.Refusal.TheVariants.{WindowClosed}
+use Rattle.refusal.specs.Numbers.{Verdict}
 use Rattle.refusal.proofs.Checks.{check_done, both_true}
 use Rattle.sequence.specs.declared.PacketNumber.{PacketNumber}
 use Rattle.sequence.specs.Modular.{distance, next}
 use Rattle.sequence.specs.Numbers.{packet, in_field}
 use Rattle.sequence.proofs.Modular.{distance-reaches, distance-remainder, distance-apart}
 use Rattle.window.specs.declared.sender.Sender.{Sender}
-use Rattle.window.specs.declared.sender.Grant.TheVariants.{Granted, Refused as NotGranted}
 use Rattle.window.specs.declared.receiver.Receiver.{Receiver}
-use Rattle.window.specs.declared.receiver.Receipt.TheVariants.{Taken, Refused as NotTaken}
-use Rattle.window.specs.declared.receiver.Telling.TheVariants.{Tell}
 use Rattle.window.specs.Sending.{sender_in_order, send_verdict, send_of, acknowledge_verdict, acknowledge_by, acknowledge_of, ready_of, not_ready_of, reject_of}
 use Rattle.window.specs.History.{Carrier, by_data, ready, not_ready, reject, pr_of}
 use Rattle.window.specs.Receiving.{fresh_receiver, receiver_in_order, receive_verdict, count_after, due_after, receive_of, tell_verdict, tell_of}
@@ -53,8 +50,8 @@ apart a g l h =
 -- at most 14 are unacknowledged and the next one is granted, or none is and the end stays the same
 abbrev pub SendCases : ℕ → ℕ → Bool → Type 0
 SendCases a g held =
-    ((g ≤ a + 14) × (send_of (sender_at a g held) ≡ record { answer = Granted (packet (g % 16)); next = sender_at a (suc g) held }))
-    ⊎ (send_of (sender_at a g held) ≡ record { answer = NotGranted WindowClosed; next = sender_at a g held })
+    ((g ≤ a + 14) × (send_of (sender_at a g held) ≡ record { answer = Ok (packet (g % 16)); next = sender_at a (suc g) held }))
+    ⊎ (send_of (sender_at a g held) ≡ record { answer = Err WindowClosed; next = sender_at a g held })
 
 pub send-cases : (a g : ℕ) (held : Bool) → a ≤ g → g ≤ a + 15 → SendCases a g held
 unfolding send_of send_verdict
@@ -90,26 +87,26 @@ pr-by reject s pr = refl
 abbrev pub PrCases : Carrier → ℕ → ℕ → Bool → ℕ → Type 0
 PrCases carrier a g held pr =
     ((a + distance 16 a pr ≤ g)
-    × (pr_of carrier (sender_at a g held) pr ≡ record { verdict = Done; next = sender_at (a + distance 16 a pr) g (mark_after carrier held) }))
-    ⊎ ((why : Refusal) × (pr_of carrier (sender_at a g held) pr ≡ record { verdict = Refused why; next = sender_at a g held }))
+    × (pr_of carrier (sender_at a g held) pr ≡ record { verdict = Ok tt; next = sender_at (a + distance 16 a pr) g (mark_after carrier held) }))
+    ⊎ ((why : Refusal) × (pr_of carrier (sender_at a g held) pr ≡ record { verdict = Err why; next = sender_at a g held }))
 
 pub pr-cases : (carrier : Carrier) (a g : ℕ) (held : Bool) (pr : ℕ) → a ≤ g → g ≤ a + 15 → PrCases carrier a g held pr
 unfolding acknowledge_verdict
 pr-cases carrier a g held pr l h = go (acknowledge_verdict (sender_at a g held) pr) refl
   where
     go : (v : Verdict) → acknowledge_verdict (sender_at a g held) pr ≡ v → PrCases carrier a g held pr
-    go Done e =
+    go (Ok tt) e =
         let tests = check_done (in_field 16 pr) _ _ (check_done (sender_in_order (sender_at a g held)) _ _ e).1 in
         let near : distance 16 (a % 16) pr ≤ distance 16 (a % 16) (g % 16) = leb-true _ _ (check_done _ _ _ tests.1).0 in
         inl (
           omega (arith, near, apart a g l h, distance-remainder 16 (lit< tt) a pr),
           pr-by carrier (sender_at a g held) pr ∙ simp (e, ← (reached a pr (ltb-true pr 16 tests.0))),
         )
-    go (Refused why) e = inr (why, pr-by carrier (sender_at a g held) pr ∙ simp e)
+    go (Err why) e = inr (why, pr-by carrier (sender_at a g held) pr ∙ simp e)
 
 -- a PR whose true number t is between a and g is accepted
 pub pr-taken : (carrier : Carrier) (a t g : ℕ) (held : Bool) → a ≤ t → t ≤ g → g ≤ a + 15
-    → pr_of carrier (sender_at a g held) (t % 16) ≡ record { verdict = Done; next = sender_at t g (mark_after carrier held) }
+    → pr_of carrier (sender_at a g held) (t % 16) ≡ record { verdict = Ok tt; next = sender_at t g (mark_after carrier held) }
 unfolding acknowledge_verdict
 pr-taken carrier a t g held l m h =
     let f : in_field 16 (t % 16) ≡ true = lt-ltb (t % 16) 16 (mod-lt t (lit< tt)) in
@@ -144,7 +141,7 @@ told-good r e =
     mark true false b e = e
 
 pub tell-told : (r : Receiver) → receiver_in_order r ≡ true
-    → tell_of r ≡ record { answer = Tell r.expected; next = record { expected = r.expected; first = r.first; untold = 0 } }
+    → tell_of r ≡ record { answer = Ok r.expected; next = record { expected = r.expected; first = r.first; untold = 0 } }
 unfolding tell_of tell_verdict
 tell-told r e = simp e
 
@@ -154,7 +151,7 @@ tell-good r e = rw (tell-told r e) (told-good r e)
 -- the expected PS is accepted, whatever the mark and the count are
 pub receive-taken : (r : Receiver) (n : ℕ) → receiver_in_order r ≡ true → r.expected ≡ packet (n % 16)
     → receive_of r (n % 16)
-    ≡ record { answer = Taken (due_after r); next = record { expected = packet (suc n % 16); first = false; untold = count_after r } }
+    ≡ record { answer = Ok (due_after r); next = record { expected = packet (suc n % 16); first = false; untold = count_after r } }
 unfolding receive_of receive_verdict
 receive-taken r n e x =
     let f : in_field 16 (n % 16) ≡ true = lt-ltb (n % 16) 16 (mod-lt n (lit< tt)) in
@@ -164,12 +161,12 @@ receive-taken r n e x =
 
 -- a PS is the expected one, or it is refused and the end stays the same
 pub receive-cases : (r : Receiver) (ps n : ℕ) → receiver_in_order r ≡ true → r.expected ≡ packet (n % 16)
-    → (ps ≡ n % 16) ⊎ ((why : Refusal) × (receive_of r ps ≡ record { answer = NotTaken why; next = r }))
+    → (ps ≡ n % 16) ⊎ ((why : Refusal) × (receive_of r ps ≡ record { answer = Err why; next = r }))
 unfolding receive_of receive_verdict
 receive-cases r ps n g x = go (receive_verdict r ps) refl
   where
-    go : (v : Verdict) → receive_verdict r ps ≡ v → (ps ≡ n % 16) ⊎ ((why : Refusal) × (receive_of r ps ≡ record { answer = NotTaken why; next = r }))
-    go Done e =
+    go : (v : Verdict) → receive_verdict r ps ≡ v → (ps ≡ n % 16) ⊎ ((why : Refusal) × (receive_of r ps ≡ record { answer = Err why; next = r }))
+    go (Ok tt) e =
         let tests = check_done (in_field 16 ps) _ _ (check_done (receiver_in_order r) _ _ e).1 in
         inl (eqb-true ps r.expected.0 (check_done _ _ _ tests.1).0 ∙ ap (λ (p : PacketNumber). p.0) x)
-    go (Refused why) e = inr (why, simp e)
+    go (Err why) e = inr (why, simp e)

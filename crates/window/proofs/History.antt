@@ -11,9 +11,9 @@ use native.Mathlib.Decide.{dec_lt}
 use native.Mathlib.Omega.{arith}
 use lib.ListN.{length, length-append, get_or-append}
 use lib.Seq.{get_or_at}
+use Rattle.std.specs.Prelude.{Err}
 use Rattle.refusal.specs.declared.Refusal.{Refusal}
 use Rattle.sequence.specs.Numbers.{packet}
-use Rattle.window.specs.declared.receiver.Receipt.TheVariants.{Refused as NotTaken}
 use Rattle.window.specs.declared.sender.Sender.{Sender}
 use Rattle.window.specs.declared.sender.Sent.{Sent}
 use Rattle.window.specs.declared.sender.Acknowledged.{Acknowledged}
@@ -134,7 +134,7 @@ receive-keeps r l ps k = go (receive-cases r ps (length l) k.good k.at)
     Kept : Received → Type 0
     Kept a = ReceiverKept a.next (note_receipt a.answer ps l)
 
-    go : (ps ≡ length l % 16) ⊎ ((why : Refusal) × (receive_of r ps ≡ record { answer = NotTaken why; next = r })) → Kept (receive_of r ps)
+    go : (ps ≡ length l % 16) ⊎ ((why : Refusal) × (receive_of r ps ≡ record { answer = Err why; next = r })) → Kept (receive_of r ps)
     go (inl e) =
         subst Kept (sym (ap (receive_of r) e ∙ receive-taken r (length l) k.good k.at)) (record {
           at = ap (λ (n : ℕ). packet (n % 16)) (sym (length_more l ps));

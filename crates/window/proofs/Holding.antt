@@ -1,5 +1,5 @@
--- The claim about the mark. Under the mark no verdict of `send` is `Done`; an accepted PR sets the
--- mark that its packet stands for, and a refused one leaves it.
+-- The claim about the mark. Under the mark `send` is refused; an accepted PR sets the mark that its
+-- packet stands for, and a refused one leaves it.
 -- Assumes nothing.
 use mathlib.Core.Path.{◌≡◌, refl, sym, ap, ◌∙◌}
 use mathlib.Core.Bool.{Bool, true, false, not, ◌&&◌, false≢true}
@@ -7,8 +7,8 @@ use mathlib.Core.List.{List, [], ◌∷◌}
 use Prim.Native.Nat.{ℕ}
 use native.Mathlib.Omega.{arith}
 use lib.Dec.{leb}
-use Rattle.refusal.specs.declared.Verdict.{Verdict}
-use Rattle.refusal.specs.declared.Verdict.TheVariants.{Done, Refused}
+use Rattle.std.specs.Prelude.{Ok, Err}
+use Rattle.refusal.specs.Numbers.{Verdict}
 use Rattle.refusal.proofs.Checks.{check_done, both_true}
 use Rattle.sequence.specs.Modular.{distance}
 use Rattle.window.specs.declared.sender.Sender.{Sender}
@@ -20,16 +20,16 @@ use Rattle.window.proofs.Ends.{mark_after, pr-by}
 -- ---- one call
 
 -- the mark after a PR, by its verdict: `held` if it is accepted
-mark-accepted : (v : Verdict) (s : Sender) (pr : ℕ) (held : Bool) → (acknowledge_by v s pr held).verdict ≡ Done
+mark-accepted : (v : Verdict) (s : Sender) (pr : ℕ) (held : Bool) → (acknowledge_by v s pr held).verdict ≡ Ok tt
     → (acknowledge_by v s pr held).next.held ≡ held
-mark-accepted Done s pr held e = refl
-mark-accepted (Refused why) s pr held e = let z : ◌≡◌ {A = ℕ} 0 1 = cc in absurd (omega arith)
+mark-accepted (Ok tt) s pr held e = refl
+mark-accepted (Err why) s pr held e = let z : ◌≡◌ {A = ℕ} 0 1 = cc in absurd (omega arith)
 
 -- a mark that stands stays, unless an accepted PR lifts it
-mark-stays : (v : Verdict) (s : Sender) (pr : ℕ) (held : Bool) → s.held ≡ true → ((acknowledge_by v s pr held).verdict ≡ Done → held ≡ true)
+mark-stays : (v : Verdict) (s : Sender) (pr : ℕ) (held : Bool) → s.held ≡ true → ((acknowledge_by v s pr held).verdict ≡ Ok tt → held ≡ true)
     → (acknowledge_by v s pr held).next.held ≡ true
-mark-stays Done s pr held e kept = kept refl
-mark-stays (Refused why) s pr held e kept = e
+mark-stays (Ok tt) s pr held e kept = kept refl
+mark-stays (Err why) s pr held e kept = e
 
 -- the same of each packet
 pr-stays : (carrier : Carrier) (h : SenderHistory) (pr : ℕ) → h.next.held ≡ true → (Lifts h (take_pr carrier pr) → ⊥)
@@ -41,28 +41,28 @@ pr-stays not_ready h pr e none = mark-stays (acknowledge_verdict h.next pr) h.ne
 pr-stays reject h pr e none = mark-stays (acknowledge_verdict h.next pr) h.next pr false e (λ d. absurd (none d))
 
 next-by : (v : Verdict) (s : Sender) (pr : ℕ) (held : Bool) → (acknowledge_by v s pr held).next.ps ≡ s.ps
-next-by Done s pr held = refl
-next-by (Refused why) s pr held = refl
+next-by (Ok tt) s pr held = refl
+next-by (Err why) s pr held = refl
 
 data-by : (v : Verdict) (s : Sender) (pr : ℕ) → (acknowledge_by v s pr s.held).next.held ≡ s.held
-data-by Done s pr = refl
-data-by (Refused why) s pr = refl
+data-by (Ok tt) s pr = refl
+data-by (Err why) s pr = refl
 
 sent-by : (v : Verdict) (s : Sender) → (send_by v s).next.held ≡ s.held
-sent-by Done s = refl
-sent-by (Refused why) s = refl
+sent-by (Ok tt) s = refl
+sent-by (Err why) s = refl
 
 -- under the mark nothing is granted
-never-sent : (s : Sender) → s.held ≡ true → send_verdict s ≡ Done → ⊥
+never-sent : (s : Sender) → s.held ≡ true → send_verdict s ≡ Ok tt → ⊥
 unfolding send_verdict
 never-sent s e d =
     let near : Bool = leb (distance 16 s.edge.0 s.ps.0) 14 in
     let both = check_done (near && not s.held) _ _ (check_done (sender_in_order s) _ _ d).1 in
     false≢true (ap not (sym e) ∙ (both_true near (not s.held) both.0).1)
 
-none-by : (v : Verdict) (s : Sender) (granted : List ℕ) → (v ≡ Done → ⊥) → note_grant (send_by v s).answer granted ≡ granted
-none-by Done s granted never = absurd (never refl)
-none-by (Refused why) s granted never = refl
+none-by : (v : Verdict) (s : Sender) (granted : List ℕ) → (v ≡ Ok tt → ⊥) → note_grant (send_by v s).answer granted ≡ granted
+none-by (Ok tt) s granted never = absurd (never refl)
+none-by (Err why) s granted never = refl
 
 -- ---- any calls
 

@@ -2,14 +2,14 @@
 -- delivered in the order in which they were sent and none is lost, no PS and no PR that is
 -- delivered is refused. (Asking for a PS may be refused with 9.) proofs/BothEnds.antt proves it.
 -- Assumes nothing.
-use Rattle.std.specs.Prelude.{◌≡◌, List, [], ◌∷◌, ◌++◌, ℕ, length, replicate}
-use Rattle.refusal.specs.Numbers.{verdict_number}
+use Rattle.std.specs.Prelude.{◌≡◌, List, [], ◌∷◌, ◌++◌, ℕ, length, replicate, Result, Ok, Err}
+use Rattle.refusal.specs.declared.Refusal.{Refusal}
+use Rattle.refusal.specs.Numbers.{refusal_number}
+use Rattle.sequence.specs.declared.PacketNumber.{PacketNumber}
 use Rattle.window.specs.declared.sender.Sender.{Sender}
 use Rattle.window.specs.declared.receiver.Receiver.{Receiver}
-use Rattle.window.specs.declared.receiver.Telling.{Telling}
-use Rattle.window.specs.declared.receiver.Telling.TheVariants.{Tell, Refused as NotTold}
 use Rattle.window.specs.Sending.{fresh_sender, send_of}
-use Rattle.window.specs.Receiving.{fresh_receiver, receive_of, receipt_number, tell_of}
+use Rattle.window.specs.Receiving.{fresh_receiver, receive_of, tell_of}
 use Rattle.window.specs.History.{Carrier, pr_of, note_grant}
 
 -- a PR on the way back, and the packet that carries it
@@ -38,9 +38,9 @@ pub data FlowEvent : Type 0 where
   deliver_pr : FlowEvent
 
 -- a PR that is told is sent after those on the way
-abbrev pub note_telling : Telling → Carrier → List OnTheWay → List OnTheWay
-note_telling (Tell pr) carrier tellings = tellings ++ (record { carrier = carrier; pr = pr.0 } ∷ [])
-note_telling (NotTold why) carrier tellings = tellings
+abbrev pub note_telling : Result PacketNumber Refusal → Carrier → List OnTheWay → List OnTheWay
+note_telling (Ok pr) carrier tellings = tellings ++ (record { carrier = carrier; pr = pr.0 } ∷ [])
+note_telling (Err why) carrier tellings = tellings
 
 -- the first of these packets on the way is delivered; if there is none, nothing happens
 abbrev pub delivered : Flow → List ℕ → Flow
@@ -50,7 +50,7 @@ delivered f (ps ∷ rest) = record {
   receiver = (receive_of f.receiver ps).next;
   packets = rest;
   tellings = f.tellings;
-  numbers = f.numbers ++ (receipt_number (receive_of f.receiver ps).answer ∷ []);
+  numbers = f.numbers ++ (refusal_number (receive_of f.receiver ps).answer ∷ []);
 }
 
 -- the same of the PR on the way back
@@ -61,7 +61,7 @@ delivered_pr f (t ∷ rest) = record {
   receiver = f.receiver;
   packets = f.packets;
   tellings = rest;
-  numbers = f.numbers ++ (verdict_number (pr_of t.carrier f.sender t.pr).verdict ∷ []);
+  numbers = f.numbers ++ (refusal_number (pr_of t.carrier f.sender t.pr).verdict ∷ []);
 }
 
 -- one event

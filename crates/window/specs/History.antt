@@ -2,16 +2,13 @@
 -- end: document 01, "The two counters"; and about the mark of an end held off: document 02, Q-4.
 -- proofs/History.antt and, for the mark, proofs/Holding.antt prove them.
 -- Assumes nothing.
-use Rattle.std.specs.Prelude.{◌≡◌, true, false, List, [], ◌∷◌, ◌++◌, ℕ, ◌+◌, ◌%◌, ◌≤◌, ◌<◌, length, get_or}
-use Rattle.refusal.specs.declared.Verdict.{Verdict}
-use Rattle.refusal.specs.declared.Verdict.TheVariants.{Done, Refused}
+use Rattle.std.specs.Prelude.{◌≡◌, Bool, true, false, List, [], ◌∷◌, ◌++◌, ℕ, ◌+◌, ◌%◌, ◌≤◌, ◌<◌, length, get_or, Result, Ok, Err}
+use Rattle.refusal.specs.declared.Refusal.{Refusal}
+use Rattle.refusal.specs.Numbers.{Verdict}
+use Rattle.sequence.specs.declared.PacketNumber.{PacketNumber}
 use Rattle.sequence.specs.Modular.{distance}
 use Rattle.window.specs.declared.sender.Sender.{Sender}
-use Rattle.window.specs.declared.sender.Grant.{Grant}
-use Rattle.window.specs.declared.sender.Grant.TheVariants.{Granted, Refused as NotGranted}
 use Rattle.window.specs.declared.receiver.Receiver.{Receiver}
-use Rattle.window.specs.declared.receiver.Receipt.{Receipt}
-use Rattle.window.specs.declared.receiver.Receipt.TheVariants.{Taken, Refused as NotTaken}
 use Rattle.window.specs.declared.sender.Acknowledged.{Acknowledged}
 use Rattle.window.specs.Sending.{fresh_sender, sender_in_order, send_of, acknowledge_of, ready_of, not_ready_of, reject_of}
 use Rattle.window.specs.Receiving.{fresh_receiver, receiver_in_order, receive_of, tell_of}
@@ -49,15 +46,15 @@ pub record SenderHistory : Type 0 where
   pub acknowledged : ℕ
 
 -- a PS that is granted is added to the list
-abbrev pub note_grant : Grant → List ℕ → List ℕ
-note_grant (Granted ps) granted = granted ++ (ps.0 ∷ [])
-note_grant (NotGranted why) granted = granted
+abbrev pub note_grant : Result PacketNumber Refusal → List ℕ → List ℕ
+note_grant (Ok ps) granted = granted ++ (ps.0 ∷ [])
+note_grant (Err why) granted = granted
 
 -- the number of packets acknowledged after a PR: if it is accepted, the first number from
 -- `acknowledged` up that is PR modulo 16, else the same as before
 abbrev pub note_pr : Verdict → ℕ → ℕ → ℕ
-note_pr Done pr acknowledged = acknowledged + distance 16 acknowledged pr
-note_pr (Refused why) pr acknowledged = acknowledged
+note_pr (Ok tt) pr acknowledged = acknowledged + distance 16 acknowledged pr
+note_pr (Err why) pr acknowledged = acknowledged
 
 -- one more call
 abbrev pub sender_step : SenderHistory → SenderCall → SenderHistory
@@ -95,9 +92,9 @@ pub record SenderClaim (calls : List SenderCall) : Type 0 where
 abbrev pub Lifts : SenderHistory → SenderCall → Type 0
 Lifts h send = ⊥
 Lifts h (take_pr by_data pr) = ⊥
-Lifts h (take_pr ready pr) = (ready_of h.next pr).verdict ≡ Done
+Lifts h (take_pr ready pr) = (ready_of h.next pr).verdict ≡ Ok tt
 Lifts h (take_pr not_ready pr) = ⊥
-Lifts h (take_pr reject pr) = (reject_of h.next pr).verdict ≡ Done
+Lifts h (take_pr reject pr) = (reject_of h.next pr).verdict ≡ Ok tt
 
 -- none of these calls does
 abbrev pub NoneLifts : SenderHistory → List SenderCall → Type 0
@@ -107,7 +104,7 @@ NoneLifts h (c ∷ cs) = (Lifts h c → ⊥) × NoneLifts (sender_step h c) cs
 -- Of any end, damaged or not, and any calls from there.
 pub record HoldClaim : Type 0 where
   -- between an accepted RNR and the next accepted RR or REJECT nothing is granted
-  pub nothing-while-held : (h : SenderHistory) (pr : ℕ) (calls : List SenderCall) → (not_ready_of h.next pr).verdict ≡ Done
+  pub nothing-while-held : (h : SenderHistory) (pr : ℕ) (calls : List SenderCall) → (not_ready_of h.next pr).verdict ≡ Ok tt
       → NoneLifts (sender_step h (take_pr not_ready pr)) calls → (sender_run h (take_pr not_ready pr ∷ calls)).granted ≡ h.granted
   -- an accepted RR or REJECT lifts the mark, so that the window alone decides from there
   pub lifted : (h : SenderHistory) (c : SenderCall) → Lifts h c → (sender_step h c).next.held ≡ false
@@ -130,9 +127,9 @@ pub record ReceiverHistory : Type 0 where
   pub taken : List ℕ
 
 -- a PS that is accepted is added to the list
-abbrev pub note_receipt : Receipt → ℕ → List ℕ → List ℕ
-note_receipt (Taken due) ps taken = taken ++ (ps ∷ [])
-note_receipt (NotTaken why) ps taken = taken
+abbrev pub note_receipt : Result Bool Refusal → ℕ → List ℕ → List ℕ
+note_receipt (Ok due) ps taken = taken ++ (ps ∷ [])
+note_receipt (Err why) ps taken = taken
 
 -- one more call
 abbrev pub receiver_step : ReceiverHistory → ReceiverCall → ReceiverHistory

@@ -1,19 +1,14 @@
 -- The receiving end of the flow window: document 01, "The two counters", third paragraph.
 -- Assumes nothing.
-use Rattle.std.specs.Prelude.{Bool, true, false, not, cond, ◌&&◌, ◌||◌, ℕ, ◌+◌, min, leb, eqb}
+use Rattle.std.specs.Prelude.{Bool, true, false, not, cond, ◌&&◌, ◌||◌, ℕ, ◌+◌, min, leb, eqb, Result, Ok, Err}
 use Rattle.refusal.specs.declared.Refusal.{Refusal}
 use Rattle.refusal.specs.declared.Refusal.TheVariants.{OutOfRange, OutsideWindow, OutOfSequence, FirstNotZero, NotInOrder}
-use Rattle.refusal.specs.declared.Verdict.{Verdict}
-use Rattle.refusal.specs.declared.Verdict.TheVariants.{Done, Refused}
-use Rattle.refusal.specs.Numbers.{number_of, check}
+use Rattle.refusal.specs.Numbers.{check, Verdict}
+use Rattle.sequence.specs.declared.PacketNumber.{PacketNumber}
 use Rattle.sequence.specs.Modular.{distance, next}
 use Rattle.sequence.specs.Numbers.{packet, in_field}
 use Rattle.window.specs.declared.receiver.Receiver.{Receiver}
-use Rattle.window.specs.declared.receiver.Receipt.{Receipt}
-use Rattle.window.specs.declared.receiver.Receipt.TheVariants.{Taken, Refused as NotTaken}
 use Rattle.window.specs.declared.receiver.Received.{Received}
-use Rattle.window.specs.declared.receiver.Telling.{Telling}
-use Rattle.window.specs.declared.receiver.Telling.TheVariants.{Tell, Refused as NotTold}
 use Rattle.window.specs.declared.receiver.Told.{Told}
 
 -- "Fresh: 0, mark standing, 0."
@@ -28,15 +23,10 @@ receiver_in_order r =
 
 -- ---- a received PS
 
--- the refusal number of the answer to a received PS, 0 if it is accepted
-abbrev pub receipt_number : Receipt → ℕ
-receipt_number (Taken due) = 0
-receipt_number (NotTaken why) = number_of why
-
--- whether the answer says that PR is due; a refusal never does
-abbrev pub receipt_due : Receipt → Bool
-receipt_due (Taken due) = due
-receipt_due (NotTaken why) = false
+-- whether the answer to `receive` says that PR is due; a refusal never does
+abbrev pub receipt_due : Result Bool Refusal → Bool
+receipt_due (Ok due) = due
+receipt_due (Err why) = false
 
 -- the refusal of a PS that is not the expected one: "Any other PS is refused: 12 if the mark
 -- stands, else 10 if its distance from expected is 15, else 11."
@@ -50,7 +40,7 @@ receive_verdict r ps =
     check (receiver_in_order r) NotInOrder
     (check (in_field 16 ps) OutOfRange
     (check (eqb ps r.expected.0) (other_ps r ps)
-    Done))
+    (Ok tt)))
 
 -- the count after one more packet: it goes up "by one but never over 8"
 abbrev pub count_after : Receiver → ℕ
@@ -64,11 +54,11 @@ due_after r = eqb (count_after r) 8
 -- modulo 16, the count by one but never over 8. At 8 the answer says that PR is due". Refused: "the
 -- same state", so that the mark stays as it is.
 abbrev pub receive_by : Verdict → Receiver → Received
-receive_by Done r = record {
-  answer = Taken (due_after r);
+receive_by (Ok tt) r = record {
+  answer = Ok (due_after r);
   next = record { expected = packet (next 16 r.expected.0); first = false; untold = count_after r };
 }
-receive_by (Refused why) r = record { answer = NotTaken why; next = r }
+receive_by (Err why) r = record { answer = Err why; next = r }
 
 -- what `receive` returns for the end r and a received PS
 unfoldable pub receive_of : Receiver → ℕ → Received
@@ -76,25 +66,20 @@ receive_of r ps = receive_by (receive_verdict r ps) r
 
 -- ---- telling PR
 
--- the refusal number of the answer to `tell`, 0 if it gives a PR
-abbrev pub telling_number : Telling → ℕ
-telling_number (Tell pr) = 0
-telling_number (NotTold why) = number_of why
-
--- the PR that it gives, 0 if it is refused
-abbrev pub telling_pr : Telling → ℕ
-telling_pr (Tell pr) = pr.0
-telling_pr (NotTold why) = 0
+-- the PR that the answer to `tell` gives, 0 if it is refused
+abbrev pub telling_pr : Result PacketNumber Refusal → ℕ
+telling_pr (Ok pr) = pr.0
+telling_pr (Err why) = 0
 
 -- the check: 14
 unfoldable pub tell_verdict : Receiver → Verdict
-tell_verdict r = check (receiver_in_order r) NotInOrder Done
+tell_verdict r = check (receiver_in_order r) NotInOrder (Ok tt)
 
 -- the answer and the next state, by the verdict: PR is the expected PS, "telling sets the count to
 -- 0", and the mark stays as it is. Refused: "the same state".
 abbrev pub tell_by : Verdict → Receiver → Told
-tell_by Done r = record { answer = Tell r.expected; next = record { expected = r.expected; first = r.first; untold = 0 } }
-tell_by (Refused why) r = record { answer = NotTold why; next = r }
+tell_by (Ok tt) r = record { answer = Ok r.expected; next = record { expected = r.expected; first = r.first; untold = 0 } }
+tell_by (Err why) r = record { answer = Err why; next = r }
 
 -- what `tell` returns for the end r
 unfoldable pub tell_of : Receiver → Told

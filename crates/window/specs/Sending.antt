@@ -3,16 +3,14 @@
 -- RR or REJECT comes". The field `edge` is the paper's lower edge, `ps` its next PS, `held` the
 -- mark that an RNR holds the end off.
 -- Assumes nothing.
-use Rattle.std.specs.Prelude.{Bool, true, false, not, ◌&&◌, ℕ, leb}
+use Rattle.std.specs.Prelude.{Bool, true, false, not, ◌&&◌, ℕ, leb, Result, Ok, Err}
+use Rattle.refusal.specs.declared.Refusal.{Refusal}
 use Rattle.refusal.specs.declared.Refusal.TheVariants.{OutOfRange, WindowClosed, NotInOrder, NeverSent}
-use Rattle.refusal.specs.declared.Verdict.{Verdict}
-use Rattle.refusal.specs.declared.Verdict.TheVariants.{Done, Refused}
-use Rattle.refusal.specs.Numbers.{number_of, check}
+use Rattle.refusal.specs.Numbers.{check, Verdict}
+use Rattle.sequence.specs.declared.PacketNumber.{PacketNumber}
 use Rattle.sequence.specs.Modular.{distance, next}
 use Rattle.sequence.specs.Numbers.{packet, in_field}
 use Rattle.window.specs.declared.sender.Sender.{Sender}
-use Rattle.window.specs.declared.sender.Grant.{Grant}
-use Rattle.window.specs.declared.sender.Grant.TheVariants.{Granted, Refused as NotGranted}
 use Rattle.window.specs.declared.sender.Sent.{Sent}
 use Rattle.window.specs.declared.sender.Acknowledged.{Acknowledged}
 
@@ -26,15 +24,10 @@ sender_in_order s = leb s.edge.0 15 && leb s.ps.0 15
 
 -- ---- asking for permission to send
 
--- the refusal number of the answer to `send`, 0 if a PS is granted
-abbrev pub grant_number : Grant → ℕ
-grant_number (Granted ps) = 0
-grant_number (NotGranted why) = number_of why
-
--- the PS that it grants, 0 if it is refused
-abbrev pub grant_ps : Grant → ℕ
-grant_ps (Granted ps) = ps.0
-grant_ps (NotGranted why) = 0
+-- the PS that the answer to `send` grants, 0 if it is refused
+abbrev pub grant_ps : Result PacketNumber Refusal → ℕ
+grant_ps (Ok ps) = ps.0
+grant_ps (Err why) = 0
 
 -- the checks in their order: 14, and then 9: "Sending is permitted exactly if the distance from
 -- edge to next is at most 14", and "9 also while a circuit is held off by RNR"
@@ -42,13 +35,13 @@ unfoldable pub send_verdict : Sender → Verdict
 send_verdict s =
     check (sender_in_order s) NotInOrder
     (check (leb (distance 16 s.edge.0 s.ps.0) 14 && not s.held) WindowClosed
-    Done)
+    (Ok tt))
 
 -- the answer and the next state, by the verdict. Permitted: "it answers next, which then goes up by
 -- one modulo 16". Refused: "the same state".
 abbrev pub send_by : Verdict → Sender → Sent
-send_by Done s = record { answer = Granted s.ps; next = record { edge = s.edge; ps = packet (next 16 s.ps.0); held = s.held } }
-send_by (Refused why) s = record { answer = NotGranted why; next = s }
+send_by (Ok tt) s = record { answer = Ok s.ps; next = record { edge = s.edge; ps = packet (next 16 s.ps.0); held = s.held } }
+send_by (Err why) s = record { answer = Err why; next = s }
 
 -- what `send` returns for the end s
 unfoldable pub send_of : Sender → Sent
@@ -63,14 +56,14 @@ acknowledge_verdict s pr =
     check (sender_in_order s) NotInOrder
     (check (in_field 16 pr) OutOfRange
     (check (leb (distance 16 s.edge.0 pr) (distance 16 s.edge.0 s.ps.0)) NeverSent
-    Done))
+    (Ok tt)))
 
 -- the answer and the next state, by the verdict; `held` is the mark afterwards. Accepted: "it
 -- becomes the edge". Refused: "the same state", so that the mark stays as it is: "a refused one
 -- changes nothing".
 abbrev pub acknowledge_by : Verdict → Sender → ℕ → Bool → Acknowledged
-acknowledge_by Done s pr held = record { verdict = Done; next = record { edge = packet pr; ps = s.ps; held = held } }
-acknowledge_by (Refused why) s pr held = record { verdict = Refused why; next = s }
+acknowledge_by (Ok tt) s pr held = record { verdict = Ok tt; next = record { edge = packet pr; ps = s.ps; held = held } }
+acknowledge_by (Err why) s pr held = record { verdict = Err why; next = s }
 
 -- what `acknowledge` returns for the end s and a PR that DATA carries: the mark stays as it is
 unfoldable pub acknowledge_of : Sender → ℕ → Acknowledged

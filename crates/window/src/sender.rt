@@ -3,52 +3,34 @@
 // the end by value and returns its answer with the next state of the end; a refused call returns
 // the end unchanged.
 ghost use Rattle.std.specs.Prelude.{◌≡◌};
-ghost use Rattle.refusal.specs.Numbers.{verdict_number, value_by};
-ghost use Rattle.window.specs.Sending.{grant_number, grant_ps, fresh_sender, sender_in_order, send_verdict, send_of, acknowledge_verdict, acknowledge_by, acknowledge_of, ready_of, not_ready_of, reject_of};
+ghost use Rattle.refusal.specs.Numbers.{value_by, refusal_number};
+ghost use Rattle.window.specs.Sending.{grant_ps, fresh_sender, sender_in_order, send_verdict, send_of, acknowledge_verdict, acknowledge_by, acknowledge_of, ready_of, not_ready_of, reject_of};
 
-use refusal::{Refusal, Verdict};
-use sequence::PacketNumber;
+use refusal::Refusal;
+use sequence::{Counter, PacketNumber};
 
 // A sending end: the lower edge of the window; the next PS; and the mark that an RNR holds the end
 // off, so that nothing is granted, however far the window is open.
-#[derive(Clone, Copy)]
+#[derive(Clone, Copy, Debug, PartialEq, Eq)]
 pub struct Sender {
     pub edge: PacketNumber,
     pub ps: PacketNumber,
     pub held: bool,
 }
 
-// Permission to send: the PS of the next packet, or why the call is refused.
-#[derive(Clone, Copy)]
-pub enum Grant {
-    Granted(PacketNumber),
-    Refused(Refusal),
-}
-
-// The answer to `send`, and the next state of the end.
-#[derive(Clone, Copy)]
+// The answer to `send`, the PS of the next packet or why the call is refused; and the next state of
+// the end.
+#[derive(Clone, Copy, Debug, PartialEq, Eq)]
 pub struct Sent {
-    pub answer: Grant,
+    pub answer: Result<PacketNumber, Refusal>,
     pub next: Sender,
 }
 
 // The answer to a received PR, whichever packet carries it, and the next state of the end.
-#[derive(Clone, Copy)]
+#[derive(Clone, Copy, Debug, PartialEq, Eq)]
 pub struct Acknowledged {
-    pub verdict: Verdict,
+    pub verdict: Result<(), Refusal>,
     pub next: Sender,
-}
-
-impl Grant {
-    // The number in document 01's table: 0 if a PS is granted, else the refusal's number.
-    pub fn number(self) -> u8
-        ensures { result ≡ grant_number self }
-    {
-        match self {
-            Grant::Granted(_ps) => 0,
-            Grant::Refused(why) => why.number(),
-        }
-    }
 }
 
 impl Sender {
@@ -65,6 +47,7 @@ impl Sender {
 
     // Whether the end is in good order. A caller can write its fields, so that it may not be; every
     // call below then refuses it with 14. Either value of the mark is in good order.
+    #[tactic(auto, unfolding(crate::specs::Sending::sender_in_order))]
     pub fn in_order(self) -> bool
         ensures { result ≡ sender_in_order self }
     {
@@ -72,71 +55,58 @@ impl Sender {
     }
 
     // Whether a PS is granted: refused in the order 14, 9.
-    fn check_send(self) -> Verdict
+    #[tactic(auto, unfolding(crate::specs::Sending::send_verdict))]
+    fn check_send(self) -> Result<(), Refusal>
         ensures { result ≡ send_verdict self }
     {
-        if self.in_order() {
-            let edge = self.edge;
-            if edge.distance_to(self.ps) <= 14 {
-                if self.held {
-                    Verdict::Refused(Refusal::WindowClosed)
-                } else {
-                    Verdict::Done
-                }
-            } else {
-                Verdict::Refused(Refusal::WindowClosed)
-            }
-        } else {
-            Verdict::Refused(Refusal::NotInOrder)
+        if !self.in_order() {
+            return Err(Refusal::NotInOrder);
         }
+        if 14 < self.edge.distance_to(self.ps) || self.held {
+            return Err(Refusal::WindowClosed);
+        }
+        Ok(())
     }
 
     // Asks for the PS of the next packet; refused in the order 14, 9. It is granted if the distance
     // from the edge to the next PS is at most 14 and no RNR holds the end off; the next PS then
     // goes up by one modulo 16.
+    #[tactic(auto, unfolding(crate::specs::Sending::send_of))]
     pub fn send(self) -> Sent
         ensures whole { result ≡ send_of self }
-        ensures number { grant_number result.answer ≡ verdict_number (send_verdict self) }
+        ensures number { refusal_number result.answer ≡ refusal_number (send_verdict self) }
         ensures value { grant_ps result.answer ≡ value_by (send_verdict self) self.ps.0 }
     {
-        let edge = self.edge;
-        let ps = self.ps;
-        let verdict = self.check_send();
-        match verdict {
-            Verdict::Done => Sent {
-                answer: Grant::Granted(ps),
+        match self.check_send() {
+            Ok(()) => Sent {
+                answer: Ok(self.ps),
                 next: Sender {
-                    edge: edge,
-                    ps: ps.next(),
-                    held: self.held,
+                    ps: self.ps.next(),
+                    ..self
                 },
             },
-            Verdict::Refused(why) => Sent {
-                answer: Grant::Refused(why),
+            Err(why) => Sent {
+                answer: Err(why),
                 next: self,
             },
         }
     }
 
     // Whether a PR is accepted: refused in the order 14, 1, 16.
-    fn check_acknowledge(self, pr: PacketNumber) -> Verdict
+    #[tactic(auto, unfolding(crate::specs::Sending::acknowledge_verdict))]
+    fn check_acknowledge(self, pr: PacketNumber) -> Result<(), Refusal>
         ensures { result ≡ acknowledge_verdict self pr.0 }
     {
-        if self.in_order() {
-            if pr.in_field() {
-                let edge = self.edge;
-                let ps = self.ps;
-                if edge.distance_to(pr) <= edge.distance_to(ps) {
-                    Verdict::Done
-                } else {
-                    Verdict::Refused(Refusal::NeverSent)
-                }
-            } else {
-                Verdict::Refused(Refusal::OutOfRange)
-            }
-        } else {
-            Verdict::Refused(Refusal::NotInOrder)
+        if !self.in_order() {
+            return Err(Refusal::NotInOrder);
         }
+        if !pr.in_field() {
+            return Err(Refusal::OutOfRange);
+        }
+        if self.edge.distance_to(self.ps) < self.edge.distance_to(pr) {
+            return Err(Refusal::NeverSent);
+        }
+        Ok(())
     }
 
     // Takes a received PR; refused in the order 14, 1, 16. A PR that is accepted becomes the edge:
@@ -145,54 +115,52 @@ impl Sender {
     fn take_pr(self, pr: PacketNumber, held: bool) -> Acknowledged
         ensures { result ≡ acknowledge_by (acknowledge_verdict self pr.0) self pr.0 held }
     {
-        let ps = self.ps;
         let verdict = self.check_acknowledge(pr);
-        match verdict {
-            Verdict::Done => Acknowledged {
-                verdict: Verdict::Done,
-                next: Sender {
-                    edge: pr,
-                    ps: ps,
-                    held: held,
-                },
+        let next = match verdict {
+            Ok(()) => Sender {
+                edge: pr,
+                held,
+                ..self
             },
-            Verdict::Refused(why) => Acknowledged {
-                verdict: Verdict::Refused(why),
-                next: self,
-            },
-        }
+            Err(_why) => self,
+        };
+        Acknowledged { verdict, next }
     }
 
     // Takes the PR of a DATA packet. The mark stays as it is: DATA acknowledges packets and says
     // nothing of whether more are welcome.
+    #[tactic(auto, unfolding(crate::specs::Sending::acknowledge_of))]
     pub fn acknowledge(self, pr: PacketNumber) -> Acknowledged
         ensures value { result ≡ acknowledge_of self pr.0 }
-        ensures number { verdict_number result.verdict ≡ verdict_number (acknowledge_verdict self pr.0) }
+        ensures number { refusal_number result.verdict ≡ refusal_number (acknowledge_verdict self pr.0) }
     {
         self.take_pr(pr, self.held)
     }
 
     // Takes the PR of an RR. If it is accepted, the end is no longer held off.
+    #[tactic(auto, unfolding(crate::specs::Sending::ready_of))]
     pub fn ready(self, pr: PacketNumber) -> Acknowledged
         ensures value { result ≡ ready_of self pr.0 }
-        ensures number { verdict_number result.verdict ≡ verdict_number (acknowledge_verdict self pr.0) }
+        ensures number { refusal_number result.verdict ≡ refusal_number (acknowledge_verdict self pr.0) }
     {
         self.take_pr(pr, false)
     }
 
     // Takes the PR of an RNR. If it is accepted, the end is held off.
+    #[tactic(auto, unfolding(crate::specs::Sending::not_ready_of))]
     pub fn not_ready(self, pr: PacketNumber) -> Acknowledged
         ensures value { result ≡ not_ready_of self pr.0 }
-        ensures number { verdict_number result.verdict ≡ verdict_number (acknowledge_verdict self pr.0) }
+        ensures number { refusal_number result.verdict ≡ refusal_number (acknowledge_verdict self pr.0) }
     {
         self.take_pr(pr, true)
     }
 
     // Takes the PR of a REJECT. If it is accepted, the end is no longer held off; the next PS stays
     // as it is, so that no PS is granted a second time.
+    #[tactic(auto, unfolding(crate::specs::Sending::reject_of))]
     pub fn reject(self, pr: PacketNumber) -> Acknowledged
         ensures value { result ≡ reject_of self pr.0 }
-        ensures number { verdict_number result.verdict ≡ verdict_number (acknowledge_verdict self pr.0) }
+        ensures number { refusal_number result.verdict ≡ refusal_number (acknowledge_verdict self pr.0) }
     {
         self.take_pr(pr, false)
     }

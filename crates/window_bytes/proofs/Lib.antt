@@ -1,5 +1,5 @@
 -- The proofs about the ends in lent bytes.
 
 pub mod Stored
-pub mod Calls
+pub mod Kept
 pub mod Claims

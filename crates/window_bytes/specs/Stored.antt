@@ -3,19 +3,18 @@
 -- specs/Receiving.antt; this file defines how both are encoded. Document 01 does not say how a
 -- state is stored; of it only "Refusal numbers" is used here.
 -- Assumes nothing.
-use Rattle.std.specs.Prelude.{Bool, cond, ◌&&◌, List, [], ◌∷◌, ℕ, ◌+◌, ◌*◌, leb, eqb, length, get_or}
+use Rattle.std.specs.Prelude.{◌≡◌, Bool, true, false, cond, ◌&&◌, List, [], ◌∷◌, ℕ, ◌+◌, ◌*◌, leb, eqb, length, get_or, Result, Option, Some, None}
+use Rattle.refusal.specs.declared.Refusal.{Refusal}
 use Rattle.refusal.specs.declared.Refusal.TheVariants.{NotInOrder}
-use Rattle.refusal.specs.Numbers.{number_of, verdict_number}
+use Rattle.refusal.specs.Numbers.{number_of, refusal_number}
 use Rattle.little.specs.Little.{flag}
+use Rattle.sequence.specs.declared.PacketNumber.{PacketNumber}
 use Rattle.sequence.specs.Numbers.{packet}
 use Rattle.window.specs.declared.sender.Sender.{Sender}
-use Rattle.window.specs.declared.sender.Grant.{Grant}
-use Rattle.window.specs.Sending.{fresh_sender, sender_in_order, grant_number, grant_ps, send_of}
+use Rattle.window.specs.Sending.{fresh_sender, sender_in_order, grant_ps, send_of}
 use Rattle.window.specs.History.{Carrier, pr_of}
 use Rattle.window.specs.declared.receiver.Receiver.{Receiver}
-use Rattle.window.specs.declared.receiver.Receipt.{Receipt}
-use Rattle.window.specs.declared.receiver.Telling.{Telling}
-use Rattle.window.specs.Receiving.{fresh_receiver, receiver_in_order, receipt_number, receipt_due, receive_of, telling_number, telling_pr, tell_of}
+use Rattle.window.specs.Receiving.{fresh_receiver, receiver_in_order, receipt_due, receive_of, telling_pr, tell_of}
 
 -- an answer as one number: the refusal number plus 256 times the value
 abbrev pub answer_with : ℕ → ℕ → ℕ
@@ -36,8 +35,8 @@ abbrev pub sender_bytes : Sender → List ℕ
 sender_bytes s = s.edge.0 ∷ s.ps.0 ∷ flag s.held ∷ []
 
 -- the answer to `send`: the value is the PS granted
-abbrev pub grant_answer : Grant → ℕ
-grant_answer g = answer_with (grant_number g) (grant_ps g)
+abbrev pub grant_answer : Result PacketNumber Refusal → ℕ
+grant_answer g = answer_with (refusal_number g) (grant_ps g)
 
 -- a fresh end: any 3 bytes are overwritten with it, whatever the mark was; another number of bytes
 -- is refused with 14, and nothing is written
@@ -63,7 +62,7 @@ send_bytes b = cond (is_sender b) (sender_bytes (send_of (sender_in b)).next) b
 -- taking a received PR, which DATA, RR, RNR or REJECT carries: the answer is the refusal number
 -- alone, without a value
 unfoldable pub pr_answer : Carrier → List ℕ → ℕ → ℕ
-pr_answer carrier b pr = cond (is_sender b) (verdict_number (pr_of carrier (sender_in b) pr).verdict) (number_of NotInOrder)
+pr_answer carrier b pr = cond (is_sender b) (refusal_number (pr_of carrier (sender_in b) pr).verdict) (number_of NotInOrder)
 
 -- the bytes afterwards
 unfoldable pub pr_bytes : Carrier → List ℕ → ℕ → List ℕ
@@ -84,12 +83,12 @@ abbrev pub receiver_bytes : Receiver → List ℕ
 receiver_bytes r = r.expected.0 ∷ flag r.first ∷ r.untold ∷ []
 
 -- the answer to `receive`: the value is 1 if PR is due, else 0
-abbrev pub receipt_answer : Receipt → ℕ
-receipt_answer r = answer_with (receipt_number r) (flag (receipt_due r))
+abbrev pub receipt_answer : Result Bool Refusal → ℕ
+receipt_answer r = answer_with (refusal_number r) (flag (receipt_due r))
 
 -- the answer to `tell`: the value is PR
-abbrev pub telling_answer : Telling → ℕ
-telling_answer t = answer_with (telling_number t) (telling_pr t)
+abbrev pub telling_answer : Result PacketNumber Refusal → ℕ
+telling_answer t = answer_with (refusal_number t) (telling_pr t)
 
 -- a fresh end: any 3 bytes are overwritten with it, whatever the mark was; another number of bytes
 -- is refused with 14, and nothing is written

@@ -1,15 +1,14 @@
 -- Numbers modulo k: the rotated word and the run as the code computes them, for any width k.
 -- Assumes nothing.
-use Rattle.std.proofs.Common.{◌≡◌, ℕ, zero, suc, ◌+◌, ◌-◌, ◌*◌, ◌/◌, ◌%◌, ◌^◌, ◌<◌, max, Bool, true, false, not, eqb, sym, refl, ap, ◌∙◌, ap₂, lt_of_le_of_lt, mod-lt, mod-eq_of_lt, arith, pow_pos}
+use Rattle.std.proofs.Common.{◌≡◌, ℕ, zero, suc, ◌+◌, ◌-◌, ◌*◌, ◌/◌, ◌%◌, ◌^◌, ◌<◌, ◌≤◌, max, Bool, true, false, not, eqb, sym, refl, ap, ◌∙◌, ap₂, lt_of_lt_of_le, mod-lt, mod-eq_of_lt, arith, pow_mono}
 use native.Mathlib.Nat.{mod-add-mod, add-mod_right, mod_self}
 use native.Mathlib.Decide.{dec_lt}
-use lib.Pow.{shr_le}
-use lib.Bits.{bit_or, or_lt}
+use lib.Bits.{bit_or}
 use lib.Count.{count_trailing_zeros}
 use Rattle.wordset.specs.Sets.{bit, member, digit, rotate, run, ahead}
 use Rattle.wordset.proofs.Digits.{bit_past, bit-or, bit_not, bit-shr, bit-shl-low, bit-shl-high, bit-mod}
-use Rattle.wordset.proofs.Sets.{bit-member, member-bit, set_of-lt, member-set_of, first-same, lowest-zeros}
-use Rattle.wordset.proofs.Words.{is_set}
+use Rattle.wordset.proofs.Sets.{bit-member, member-bit, set_of-lt, member-set_of, member-past, first-le, first-picked, first-least, first-only, first-same, lowest-zeros}
+use Rattle.wordset.proofs.Words.{cut-set}
 
 pub same_bit : (v w i j : ℕ) → bit v i ≡ bit w j → member v i ≡ member w j
 unfolding member
@@ -40,42 +39,62 @@ module _ (k : ℕ) where
   pub rotate-lt : (w s : ℕ) → rotate k w s < 2 ^ k
   rotate-lt w s = set_of-lt k (λ j. member w ((s + j) % k))
 
-  -- ---- the number of trailing zeros of the rotated word's complement is the length of the run
+  -- ---- the number of trailing zeros of the rotated word's complement is the length of the run; the
+  -- complement may be one in m bits, where m is more than k
 
-  pub zeros-run : (w s : ℕ) → count_trailing_zeros k (2 ^ k - 1 - rotate k w s) ≡ run k w s
-  zeros-run w s =
-      lowest-zeros k (2 ^ k - 1 - rotate k w s)
-      ∙ first-same k (member (2 ^ k - 1 - rotate k w s)) (λ j. not (member w ((s + j) % k))) (λ j l.
-      member-not k (rotate k w s) j (rotate-lt w s) l ∙ ap not (member-rotate w s j l))
+  pub zeros-run : (m w s : ℕ) → k ≤ m → count_trailing_zeros m (2 ^ m - 1 - rotate k w s) ≡ run k w s
+  zeros-run m w s h =
+      lowest-zeros m c
+      ∙ sym (first-only m (member c) (run k w s) (omega (arith, first-le k gap))
+      (λ j l. at j (omega (arith, first-le k gap)) ∙ first-least k gap j l)
+      (λ l. elim (dec_lt (run k w s) k) [
+        | yes b ↦ at (run k w s) b ∙ first-picked k gap b
+        | no b ↦ past (run k w s) l (omega arith)
+      ]))
+    where
+      c : ℕ
+      c = 2 ^ m - 1 - rotate k w s
+
+      gap : ℕ → Bool
+      gap j = not (member w ((s + j) % k))
+
+      fits : rotate k w s < 2 ^ m
+      fits = lt_of_lt_of_le (rotate-lt w s) (pow_mono h)
+
+      at : (j : ℕ) → j < k → member c j ≡ gap j
+      at j l = member-not m (rotate k w s) j fits (omega arith) ∙ ap not (member-rotate w s j l)
+
+      past : (j : ℕ) → j < m → k ≤ j → member c j ≡ true
+      past j l b = member-not m (rotate k w s) j fits l ∙ ap not (member-past k (rotate k w s) j (rotate-lt w s) b)
 
   -- ---- the number of its own trailing zeros is how far ahead the first member is
 
   pub zeros-ahead : (w s : ℕ) → count_trailing_zeros k (rotate k w s) ≡ ahead k w s
   zeros-ahead w s = lowest-zeros k (rotate k w s) ∙ first-same k (member (rotate k w s)) (λ j. member w ((s + j) % k)) (member-rotate w s)
 
-module _ (k : ℕ) (pos : 0 < k) where
-  -- ---- the word shifted down, with the bits that fall out put in at the top
+module _ (k m : ℕ) (pos : 0 < k) (room : k ≤ m) where
+  -- ---- the word shifted down, with the bits that fall out put in at the top, in m bits
 
   abbrev shifts : ℕ → ℕ → ℕ
-  shifts w s = bit_or (w / 2 ^ s) (w * 2 ^ ((k - s) % k) % 2 ^ k)
+  shifts w s = bit_or (w / 2 ^ s) (w * 2 ^ ((k - s) % k) % 2 ^ m)
 
   bit-shifts : (w s : ℕ) → w < 2 ^ k → s < k → (j : ℕ) → j < k → bit (shifts w s) j ≡ bit w ((s + j) % k)
   bit-shifts w zero h l j b =
-      bit-or (w / 2 ^ 0) (w * 2 ^ ((k - 0) % k) % 2 ^ k) j
+      bit-or (w / 2 ^ 0) (w * 2 ^ ((k - 0) % k) % 2 ^ m) j
       ∙ max-same (bit (w / 2 ^ 0) j) _ (bit-shr w 0 j ∙ sym (upper ∙ ap (bit w) (omega arith)))
       ∙ upper ∙ ap (bit w) (sym (ap (λ (x : ℕ). x % k) (omega arith) ∙ mod-eq_of_lt b))
     where
       none : (k - 0) % k ≡ 0
       none = ap (λ (x : ℕ). x % k) (omega arith) ∙ mod_self k
 
-      upper : bit (w * 2 ^ ((k - 0) % k) % 2 ^ k) j ≡ bit w j
+      upper : bit (w * 2 ^ ((k - 0) % k) % 2 ^ m) j ≡ bit w j
       upper =
-          bit-mod (w * 2 ^ ((k - 0) % k)) k j b
+          bit-mod (w * 2 ^ ((k - 0) % k)) m j (omega arith)
           ∙ ap (λ (x : ℕ). bit (w * 2 ^ x) j) none
           ∙ ap (bit (w * 2 ^ 0)) (omega arith) ∙ bit-shl-high w 0 j
   bit-shifts w (suc s) h l j b =
-      bit-or (w / 2 ^ suc s) (w * 2 ^ ((k - suc s) % k) % 2 ^ k) j
-      ∙ ap₂ max (bit-shr w (suc s) j) (bit-mod (w * 2 ^ ((k - suc s) % k)) k j b ∙ ap (λ (x : ℕ). bit (w * 2 ^ x) j) (mod-eq_of_lt (omega arith)))
+      bit-or (w / 2 ^ suc s) (w * 2 ^ ((k - suc s) % k) % 2 ^ m) j
+      ∙ ap₂ max (bit-shr w (suc s) j) (bit-mod (w * 2 ^ ((k - suc s) % k)) m j (omega arith) ∙ ap (λ (x : ℕ). bit (w * 2 ^ x) j) (mod-eq_of_lt (omega arith)))
       ∙ elim (dec_lt (suc s + j) k) [
         | yes c ↦
             ap (max (bit w (suc s + j))) (bit-shl-low w (k - suc s) j (omega arith))
@@ -88,11 +107,9 @@ module _ (k : ℕ) (pos : 0 < k) where
             ∙ max-zero-l (bit w i) ∙ ap (bit w) (sym (ap (λ (x : ℕ). x % k) f ∙ add-mod_right i k ∙ mod-eq_of_lt (omega arith)))
       ]
 
-  -- this is the rotated set, for any s
-  pub shifts-rotate : (w s : ℕ) → w < 2 ^ k → bit_or (w / 2 ^ (s % k)) (w * 2 ^ ((k - s % k) % k) % 2 ^ k) ≡ rotate k w s
+  -- cut to k bits this is the rotated set, for any s
+  pub shifts-rotate : (w s : ℕ) → w < 2 ^ k → bit_or (w / 2 ^ (s % k)) (w * 2 ^ ((k - s % k) % k) % 2 ^ m) % 2 ^ k ≡ rotate k w s
   shifts-rotate w s h =
-      is_set k (shifts w (s % k)) _
-      (or_lt k (w / 2 ^ (s % k)) (w * 2 ^ ((k - s % k) % k) % 2 ^ k) (lt_of_le_of_lt (shr_le w (s % k)) h) (mod-lt (w * 2 ^ ((k - s % k) % k)) (pow_pos k)))
-      (λ j b.
+      cut-set k (shifts w (s % k)) _ (λ j b.
       same_bit (shifts w (s % k)) w j ((s % k + j) % k) (bit-shifts w (s % k) h (mod-lt s pos) j b)
       ∙ ap (member w) (mod-add-mod s k j))

@@ -3,12 +3,13 @@
 use Rattle.std.proofs.Common.{◌≡◌, ℕ, ◌+◌, ◌-◌, ◌%◌, ◌^◌, ◌<◌, ◌≤◌, Bool, true, false, cond, not, ltb, sym, refl, ap, ◌∙◌, subst, true≢false, zero-le, le_refl, not-suc-le-zero, add-zero, mod-lt, mod-eq_of_lt, arith, le-ltb, lt-ltb}
 use native.Mathlib.Nat.{mod-add-mod, add-mod_right}
 use native.Mathlib.Decide.{dec_lt}
+use lib.Count.{count_trailing_zeros}
 use borrow.Author.Tests.{not-true, not-false}
-use Rattle.wordset.specs.Sets.{member, lowest, run, ahead, first_from}
+use Rattle.wordset.specs.Sets.{member, first, lowest, rotate, run, ahead, first_from}
 use Rattle.wordset.specs.Laws.{IsLowest}
 use Rattle.wordset.specs.Runs.{IsRun, RunLaw, LowestLaw, IsFirst, FirstLaw, TrailingCounts}
 use Rattle.wordset.proofs.Sets.{member-none, member-past, first-le, first-picked, first-least, first-most, first-only, first-same, lowest-zeros, lowest-below}
-use Rattle.wordset.proofs.Rings.{zeros-run, zeros-ahead}
+use Rattle.wordset.proofs.Rings.{member-rotate, zeros-run, zeros-ahead}
 use Rattle.wordset.proofs.Masks.{member-ones}
 
 module _ (k : ℕ) where
@@ -42,9 +43,9 @@ module _ (k : ℕ) where
 
   pub run-law : RunLaw k
   run-law = record {
-    counted = λ w s. subst (IsRun k w s) (sym (zeros-run k w s)) (run_is w s);
-    only = λ w s r i. run_only w s r i ∙ sym (zeros-run k w s);
-    is-run = zeros-run k;
+    counted = λ w s. subst (IsRun k w s) (sym (zeros-run k k w s (le_refl k))) (run_is w s);
+    only = λ w s r i. run_only w s r i ∙ sym (zeros-run k k w s (le_refl k));
+    is-run = λ w s. zeros-run k k w s (le_refl k);
     full = run-full;
     none = run_none;
   }
@@ -108,6 +109,17 @@ module _ (k : ℕ) where
 
   first-at : (w s : ℕ) → ahead k w s < k → first_from k w s ≡ (s + ahead k w s) % k
   first-at w s h = ap (λ (b : Bool). cond b ((s + ahead k w s) % k) k) (lt-ltb _ _ h)
+
+  -- the steps may be counted in m bits, where m is more than k
+  pub zeros-first : (m w s : ℕ) → k ≤ m → 0 < w → w < 2 ^ k → (s % k + count_trailing_zeros m (rotate k w s)) % k ≡ first_from k w s
+  zeros-first m w s r p h =
+      let one : ℕ → Bool = λ j. member w ((s + j) % k) in
+      let l = ahead-lt w s p h in
+      let zeros : ahead k w s ≡ first m (member (rotate k w s)) =
+      first-only m (member (rotate k w s)) (ahead k w s) (omega arith)
+      (λ j b. member-rotate k w s j (omega arith) ∙ first-least k one j b)
+      (λ _. member-rotate k w s (ahead k w s) l ∙ first-picked k one l) in
+      ap (λ (d : ℕ). (s % k + d) % k) (lowest-zeros m (rotate k w s) ∙ sym zeros) ∙ mod-add-mod s k _ ∙ sym (first-at w s l)
 
   first-only-place : (w s n : ℕ) → IsFirst k w s n → n ≡ first_from k w s
   first-only-place w s n i =

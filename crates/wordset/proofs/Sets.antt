@@ -183,6 +183,16 @@ lowest-below k w p h = go (dec_lt (first k (member w)) k)
         same-members k w 0 h (pow_pos k) (λ j b. first-least k (member w) j (omega (arith, first-le k (member w))) ∙ sym (member-none j)) in
         absurd (omega arith)
 
+-- and the zeros below it may be counted in m bits, where m is more than k
+pub zeros-lowest : (k m w : ℕ) → k ≤ m → 0 < w → w < 2 ^ k → count_trailing_zeros m w ≡ lowest k w
+zeros-lowest k m w r p h =
+    let l = lowest-below k w p h in
+    lowest-zeros m w ∙ sym (first-only m (member w) (lowest k w) (omega arith) (first-least k (member w)) (λ _. first-picked k (member w) l))
+
+-- the lowest number of no set
+pub lowest-none : (k w : ℕ) → w ≡ 0 → k ≡ lowest k w
+lowest-none k w e = sym (ap (lowest k) e ∙ sym (lowest-zeros k 0) ∙ trailing_of_zero k)
+
 pub set-laws : (k : ℕ) → SetLaws k
 set-laws k = record {
   member-with = λ w n. member-set_of k (λ j. member w j || eqb j n);
@@ -195,7 +205,7 @@ set-laws k = record {
   member-past = member-past k;
   same = same-members k;
   count_ones = count_ones k;
-  lowest-none = sym (lowest-zeros k 0) ∙ trailing_of_zero k;
+  lowest-none = sym (lowest-none k 0 refl);
   lowest-is = λ w h. record { in-set = first-picked k (member w) h; least = first-least k (member w) };
   lowest-below = lowest-below k;
 }

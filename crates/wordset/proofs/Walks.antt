@@ -1,17 +1,18 @@
 -- A walk over the members of a set, the lowest first: the set without its lowest member, and the
 -- members among the numbers that follow a start, for any width k.
 -- Assumes nothing.
-use Rattle.std.proofs.Common.{◌≡◌, ℕ, zero, suc, ◌+◌, ◌-◌, ◌*◌, ◌/◌, ◌%◌, ◌^◌, ◌<◌, ◌≤◌, min, Bool, true, false, cond, not, ◌&&◌, eqb, ltb, leb, sym, refl, ap, ◌∙◌, ap₂, zero-le, not-suc-le-zero, lt_of_le_of_lt, arith, pow_pos, ltb-true, le-ltb, lt-ltb, eq-eqb, ne_eqb, le-leb, leb-true}
+use Rattle.std.proofs.Common.{◌≡◌, ℕ, zero, suc, ◌+◌, ◌-◌, ◌*◌, ◌/◌, ◌%◌, ◌^◌, ◌<◌, ◌≤◌, min, Bool, true, false, cond, not, ◌&&◌, eqb, ltb, leb, sym, refl, ap, ◌∙◌, ap₂, zero-le, not-suc-le-zero, lt_of_le_of_lt, mod-eq_of_lt, arith, pow_pos, pow_mono, ltb-true, le-ltb, lt-ltb, eq-eqb, ne_eqb, le-leb, leb-true}
 use mathlib.Core.Path.{fun_ext}
 use mathlib.Core.Bool.{and-true, and-false, false≢true}
+use native.Mathlib.Nat.{add-mod_right}
 use native.Mathlib.Decide.{dec_lt}
 use lib.Dec.{eqb-suc-zero, eqb-suc-suc}
-use lib.Bits.{bit_and, and_step, and_self, and_le_l, and_le_r}
+use lib.Bits.{bit_and, and_step, and_zero_l, and_self, and_le_l, and_le_r}
 use borrow.Author.Tests.{lt-leb}
 use Rattle.wordset.specs.Sets.{member, digit, first, lowest, without_lowest, rotate, stretch}
 use Rattle.wordset.proofs.Sets.{low_digit, member-half, member-none, set_of-lt, member-set_of, set_of-same, first-picked, first-least, lowest-below}
-use Rattle.wordset.proofs.Words.{is_set, mask}
-use Rattle.wordset.proofs.Rings.{member-rotate, rotate-lt}
+use Rattle.wordset.proofs.Words.{is_set, cut-set, mask}
+use Rattle.wordset.proofs.Rings.{member-rotate}
 use Rattle.wordset.proofs.Masks.{member-and, member-ones}
 
 -- ---- a word and the number below it have the word's ones in common but for the lowest
@@ -71,6 +72,15 @@ module _ (k : ℕ) where
   pub none-without : without_lowest k 0 ≡ 0
   none-without = sym (is_set k 0 _ (pow_pos k) (λ j l. member-none j ∙ sym (ap (λ (b : Bool). b && not (eqb j (first k (member 0)))) (member-none j))))
 
+  -- the code subtracts 1 in m bits, where 0 wraps round
+  pub less-one : (m w : ℕ) → k ≤ m → w < 2 ^ k → bit_and w ((w + (2 ^ m - 1)) % 2 ^ m) % 2 ^ k ≡ without_lowest k w
+  less-one m zero r h = ap (λ (x : ℕ). x % 2 ^ k) (and_zero_l ((0 + (2 ^ m - 1)) % 2 ^ m)) ∙ mod-eq_of_lt (pow_pos k) ∙ sym none-without
+  less-one m (suc w) r h =
+      let p : 2 ^ k ≤ 2 ^ m = pow_mono r in
+      let e : suc w + (2 ^ m - 1) ≡ w + 2 ^ m = omega (arith, pow_pos m) in
+      let z : (suc w + (2 ^ m - 1)) % 2 ^ m ≡ suc w - 1 = ap (λ (x : ℕ). x % 2 ^ m) e ∙ add-mod_right w (2 ^ m) ∙ mod-eq_of_lt (omega arith) ∙ omega arith in
+      ap (λ (x : ℕ). bit_and (suc w) x % 2 ^ k) z ∙ mod-eq_of_lt (less-lt (suc w) h) ∙ pred-without (suc w) (omega arith) h
+
   -- a walk ends
   pub without-lt : (w : ℕ) → 0 < w → w < 2 ^ k → without_lowest k w < w
   without-lt w p h = omega (arith, pred-without w p h, and_le_r w (w - 1))
@@ -78,16 +88,16 @@ module _ (k : ℕ) where
   -- ---- the members among the n numbers starting at s
 
   -- of no numbers
-  pub stretch-none : (w s n : ℕ) → n ≡ 0 → 0 ≡ stretch k w s n
+  pub stretch-none : (w s n : ℕ) → n ≡ 0 → 0 % 2 ^ k ≡ stretch k w s n
   stretch-none w s n z =
-      is_set k 0 _ (pow_pos k) (λ j l.
+      cut-set k 0 _ (λ j l.
       member-none j ∙ sym (ap (λ (b : Bool). member w ((s + j) % k) && b) (le-ltb j n (omega arith)) ∙ and-false (member w ((s + j) % k))))
 
   -- of fewer than k, by a mask
-  pub stretch-mask : (w s n : ℕ) → n < k → bit_and (rotate k w s) (1 * 2 ^ n % 2 ^ k - 1) ≡ stretch k w s n
-  stretch-mask w s n h =
-      ap (λ (m : ℕ). bit_and (rotate k w s) (m - 1)) (mask k n h)
-      ∙ is_set k (bit_and (rotate k w s) (2 ^ n - 1)) _ (lt_of_le_of_lt (and_le_l (rotate k w s) (2 ^ n - 1)) (rotate-lt k w s)) (λ j l.
+  pub stretch-mask : (m w s n : ℕ) → n < m → bit_and (rotate k w s) (1 * 2 ^ n % 2 ^ m - 1) % 2 ^ k ≡ stretch k w s n
+  stretch-mask m w s n h =
+      ap (λ (x : ℕ). bit_and (rotate k w s) (x - 1) % 2 ^ k) (mask m n h)
+      ∙ cut-set k (bit_and (rotate k w s) (2 ^ n - 1)) _ (λ j l.
       member-and (rotate k w s) (2 ^ n - 1) j ∙ ap₂ ◌&&◌ (member-rotate k w s j l) (member-ones n j))
 
   -- of all

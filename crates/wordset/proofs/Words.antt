@@ -1,13 +1,13 @@
 -- Each word operation of the code is the operation on sets that its contract names, for any width
 -- k.
 -- Assumes nothing.
-use Rattle.std.proofs.Common.{◌≡◌, ℕ, zero, suc, ◌+◌, ◌-◌, ◌*◌, ◌/◌, ◌%◌, ◌^◌, ◌<◌, ◌≤◌, min, max, Bool, true, false, not, ◌&&◌, ◌||◌, eqb, sym, refl, ap, ◌∙◌, ap₂, lt_of_le_of_lt, one-mul, arith, lit<, shl_exact, eq-eqb, ne_eqb}
+use Rattle.std.proofs.Common.{◌≡◌, ℕ, zero, suc, ◌+◌, ◌-◌, ◌*◌, ◌/◌, ◌%◌, ◌^◌, ◌<◌, ◌≤◌, min, max, Bool, true, false, not, ◌&&◌, ◌||◌, eqb, sym, refl, ap, ◌∙◌, ap₂, lt_of_le_of_lt, mod-lt, mod-eq_of_lt, one-mul, arith, lit<, pow_pos, shl_exact, eq-eqb, ne_eqb}
 use mathlib.Core.Bool.{or-false}
 use native.Mathlib.Decide.{dec_lt}
-use lib.Pow.{pow-lt}
-use lib.Bits.{bit_and, bit_or, and_mask, and_le_l, or_lt}
+use lib.Pow.{shr_le}
+use lib.Bits.{bit_and, bit_or, and_mask}
 use Rattle.wordset.specs.Sets.{bit, member, digit, set_of, with, union, difference}
-use Rattle.wordset.proofs.Digits.{bit-zero, bit_past, bit-or, bit-and, bit_not, bit-shl-low, bit-shl-high}
+use Rattle.wordset.proofs.Digits.{bit-zero, bit_past, bit-or, bit-and, bit_not, bit-shl-low, bit-shl-high, bit-mod}
 use Rattle.wordset.proofs.Sets.{bit-member, member-bit, set_of-lt, member-set_of, same-members}
 
 -- ---- or, and, and not, bit by bit
@@ -66,19 +66,25 @@ module _ (k : ℕ) where
   pub is_set : (w : ℕ) (p : ℕ → Bool) → w < 2 ^ k → ((j : ℕ) → j < k → member w j ≡ p j) → w ≡ set_of k p
   is_set w p h e = same-members k w (set_of k p) h (set_of-lt k p) (λ j l. e j l ∙ sym (member-set_of k p j l))
 
-  less-lt : (a b : ℕ) → a < 2 ^ k → bit_and a (2 ^ k - 1 - b) < 2 ^ k
-  less-lt a b h = lt_of_le_of_lt (and_le_l a (2 ^ k - 1 - b)) h
+  -- and so is a number that is cut to k bits: the code works on m bits, which may be more
+  pub cut-set : (w : ℕ) (p : ℕ → Bool) → ((j : ℕ) → j < k → member w j ≡ p j) → w % 2 ^ k ≡ set_of k p
+  cut-set w p e =
+      is_set (w % 2 ^ k) p (mod-lt w (pow_pos k)) (λ j l. member-bit (w % 2 ^ k) j _ (bit-mod w k j l) ∙ sym (member-bit w j _ refl) ∙ e j l)
 
-  pub or-union : (a b : ℕ) → a < 2 ^ k → b < 2 ^ k → bit_or a b ≡ union k a b
-  or-union a b ha hb = is_set (bit_or a b) _ (or_lt k a b ha hb) (λ j l. member-or a b j)
+  -- a word of k bits, shifted down, is one of k bits still
+  pub cut-member : (w n : ℕ) → w < 2 ^ k → eqb (bit_and (w / 2 ^ n % 2 ^ k) 1) 1 ≡ member w n
+  cut-member w n h = ap (λ (x : ℕ). eqb (bit_and x 1) 1) (mod-eq_of_lt (lt_of_le_of_lt (shr_le w n) h)) ∙ shifted-member w n
 
-  pub and-difference : (a b : ℕ) → a < 2 ^ k → b < 2 ^ k → bit_and a (2 ^ k - 1 - b) ≡ difference k a b
-  and-difference a b ha hb = is_set (bit_and a (2 ^ k - 1 - b)) _ (less-lt a b ha) (λ j l. member-less k a b j hb l)
+  pub or-union : (a b : ℕ) → bit_or a b % 2 ^ k ≡ union k a b
+  or-union a b = cut-set (bit_or a b) _ (λ j l. member-or a b j)
 
-  pub or-with : (w n : ℕ) → w < 2 ^ k → n < k → bit_or w (1 * 2 ^ n % 2 ^ k) ≡ with k w n
-  or-with w n h l =
-      ap (bit_or w) (mask k n l)
-      ∙ is_set (bit_or w (2 ^ n)) _ (or_lt k w (2 ^ n) h (pow-lt l)) (λ j b. member-or w (2 ^ n) j ∙ ap (λ (x : Bool). member w j || x) (member-only n j))
+  pub and-difference : (m a b : ℕ) → k ≤ m → b < 2 ^ m → bit_and a (2 ^ m - 1 - b) % 2 ^ k ≡ difference k a b
+  and-difference m a b r h = cut-set (bit_and a (2 ^ m - 1 - b)) _ (λ j l. member-less m a b j h (omega arith))
+
+  pub or-with : (m w n : ℕ) → n < m → bit_or w (1 * 2 ^ n % 2 ^ m) % 2 ^ k ≡ with k w n
+  or-with m w n l =
+      ap (λ (x : ℕ). bit_or w x % 2 ^ k) (mask m n l)
+      ∙ cut-set (bit_or w (2 ^ n)) _ (λ j b. member-or w (2 ^ n) j ∙ ap (λ (x : Bool). member w j || x) (member-only n j))
 
   -- adding a number that is not below k changes nothing
   past : (n j : ℕ) → k ≤ n → j < k → eqb j n ≡ false

@@ -1,14 +1,10 @@
 -- `capture_text::put_read` meets its contract: each arm is a case of `read_text`.
 -- Assumes nothing.
-use Rattle.capture_text.proofs.Texts.{packet-read, route-read, not-read}
-use native.Mathlib.Omega.{arith}
+use Rattle.capture_text.proofs.Texts.{contents-read, not-read}
 use Rattle.capture_text.proofs.put_read.Goals as goal
 
-pub returns-in-Packet : goal.returns-in-Packet
-returns-in-Packet c = packet-read _ _ c.in-Packet.is c.put_packet.ensures
+pub returns-in-Ok : goal.returns-in-Ok
+returns-in-Ok c = contents-read _ c.in-Ok.is c.put_contents.ensures
 
-pub returns-in-Route : goal.returns-in-Route
-returns-in-Route c = route-read _ c.in-Route.is (c.put_word.ensures.written (omega arith))
-
-pub returns-in-Refused : goal.returns-in-Refused
-returns-in-Refused c = not-read _ _ c.in-Refused.is c.put_not_read.ensures
+pub returns-in-Err : goal.returns-in-Err
+returns-in-Err c = not-read _ c.in-Err.is c.put_not_read.ensures

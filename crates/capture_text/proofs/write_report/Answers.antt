@@ -16,16 +16,16 @@ returns-then-out-lt65536 c =
 
 pub put_lines-requires : goal.put_lines-requires
 put_lines-requires c =
-    (subst (λ o. opened_count o ≤ 512) c.in-Capture.is c.judge-opened.ensures.few, c.if-out-lt65536.false)
+    (subst (λ o. opened_count o ≤ 512) c.in-Ok.is c.judge.ensures.few, c.if-out-lt65536.false)
 
-pub returns-in-Capture : goal.returns-in-Capture
-returns-in-Capture c =
+pub returns-in-Ok : goal.returns-in-Ok
+returns-in-Ok c =
     four (λ p q r s. record { value = p; number = q; written = r; inside = s })
-    (let p = lines-reported c.args.hex c.args.file.now c.args.out.now _ _ _ c.if-out-lt65536.false c.judge-opened.ensures.value _ _ _ c.in-Capture.is c.from_number.ensures c.put_lines.ensures in
+    (let p = lines-reported c.args.hex c.args.file.now c.args.out.now _ _ _ c.if-out-lt65536.false c.judge.ensures.value _ _ _ c.in-Ok.is c.from.ensures c.put_lines.ensures in
     (p.answer, (p.number, (p.written, p.inside))))
 
-pub returns-in-Refused : goal.returns-in-Refused
-returns-in-Refused c =
+pub returns-in-Err : goal.returns-in-Err
+returns-in-Err c =
     four (λ p q r s. record { value = p; number = q; written = r; inside = s })
-    (let p = refused-reported c.args.hex c.args.file.now c.args.out.now _ _ _ c.if-out-lt65536.false c.judge-opened.ensures.value _ _ c.in-Refused.is c.number.ensures c.put_refused.ensures in
+    (let p = refused-reported c.args.hex c.args.file.now c.args.out.now _ _ _ c.if-out-lt65536.false c.judge.ensures.value _ c.in-Err.is c.put_refused.ensures in
     (p.answer, (p.number, (p.written, p.inside))))

@@ -11,7 +11,7 @@ pub returns : goal.returns
 returns c =
     four (λ p q r s. record { whole = p; written = q; number = r; value = s })
     (let a = c.args in
-    let write = c.write_route-answer in
+    let write = c.write_route in
     let form = c.number.ensures in
     let optional = c.flag-o.ensures in
     let initial = c.flag-i.ensures in

@@ -1,22 +1,15 @@
 -- `frame_reader::ends_in_zeros` meets its contract.
 -- Assumes nothing.
-use mathlib.Core.Path.{◌≡◌, sym, ap, ◌∙◌, subst}
-use mathlib.Core.Bool.{true≢false}
+use mathlib.Core.Path.{◌≡◌, ap, ◌∙◌, subst}
 use Prim.Native.Nat.{ℕ, ◌-◌, ◌*◌, ◌/◌, ◌≤◌}
 use native.Mathlib.Omega.{arith}
-use lib.Count.{count_trailing_zeros, trailing_le}
+use lib.Count.{count_trailing_zeros}
 use lib.ListN.{length, drop}
 use borrow.Author.Tests.{leb-true}
 use borrow.Author.Rules.{part_to_end}
 use Rattle.frame_fields.specs.Rows.{number_in}
 use Rattle.frame_reader.proofs.Zeros.{bytes-all, ends-zero}
 use Rattle.frame_reader.proofs.ends_in_zeros.Goals as goal
-
-pub returns-then-len-lt8 : goal.returns-then-len-lt8
-returns-then-len-lt8 c = λ e. absurd (true≢false (sym e))
-
-pub overflow_cast-zeros : goal.overflow_cast-zeros
-overflow_cast-zeros c = omega (arith, trailing_le 64 c.number_in.result)
 
 pub returns : goal.returns
 returns c =

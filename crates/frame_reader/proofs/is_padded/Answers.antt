@@ -1,14 +1,11 @@
 -- `frame_reader::is_padded` meets its contract: all bytes are 0 if the first that is not is none.
 -- Assumes nothing.
-use mathlib.Core.Path.{sym, ap, ◌∙◌}
+use mathlib.Core.Path.{ap, ◌∙◌}
 use Prim.Native.Nat.{ℕ}
 use lib.Dec.{eqb}
 use lib.ListN.{length}
 use Rattle.frame_reader.proofs.Zeros.{all-counted}
 use Rattle.frame_reader.proofs.is_padded.Goals as goal
-
-pub returns-then-ends_in_zeros : goal.returns-then-ends_in_zeros
-returns-then-ends_in_zeros c = sym (c.ends_in_zeros.ensures c.if-ends_in_zeros.true)
 
 pub returns : goal.returns
 returns c =

@@ -7,10 +7,6 @@ use Rattle.frame_reader.proofs.Cases.{form-refused, shape-refused, refused-locat
 use Rattle.refusal.proofs.Clauses.{two}
 use Rattle.frame_reader.proofs.look.Goals as goal
 
-pub look_whole-requires : goal.look_whole-requires
-look_whole-requires c =
-    (sym c.is_form.ensures ∙ c.if-is_form.true, sym c.is_whole_at.ensures ∙ c.if-is_whole_at.true, c.segment_at.ensures)
-
 pub returns-then-locate : goal.returns-then-locate
 returns-then-locate c =
     two (λ p q. record { value = p; written = q })

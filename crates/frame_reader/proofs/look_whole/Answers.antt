@@ -16,10 +16,6 @@ bounds-frame-0 c =
     let f = form_at c.args.form in
     omega (arith, segment-some f, whole-some (seg_of f) (length c.args.frame.now) (segment-some f) c.requires.1)
 
-pub look_found-requires : goal.look_found-requires
-look_found-requires c =
-    (record { valid = c.requires.0; whole = c.requires.1; found-is = sym c.named-found.ensures; some = c.in_default.not-Unknown }, c.requires.2)
-
 pub returns-then-locate : goal.returns-then-locate
 returns-then-locate c =
     two (λ p q. record { value = p; written = q })

@@ -35,10 +35,6 @@ loop-i-init c = (c.args.k, omega arith, omega arith, refl)
 pub overflow_mul-h : goal.overflow_mul-h
 overflow_mul-h c = let l = c.loop-i in omega (arith, short-fits l.h l.i l.invariant.2 (omega arith))
 
-pub overflow_cast-h : goal.overflow_cast-h
-overflow_cast-h c =
-    let byte_small : get_or c.args.frame.now c.loop-i.i 0 < 256 = omega (arith, c.type_inv.frame c.loop-i.i) in omega (arith, byte_small)
-
 pub overflow_add-h : goal.overflow_add-h
 overflow_add-h c =
     let byte_small : get_or c.args.frame.now c.loop-i.i 0 < 256 = omega (arith, c.type_inv.frame c.loop-i.i) in let l = c.loop-i in omega (arith, short-fits l.h l.i l.invariant.2 (omega arith), byte_small)

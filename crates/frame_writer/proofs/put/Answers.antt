@@ -6,8 +6,6 @@ use mathlib.Core.Bool.{cond}
 use Prim.Native.Nat.{ℕ, ◌+◌, ◌-◌}
 use native.Mathlib.Omega.{arith}
 use lib.ListN.{length}
-use Rattle.refusal.specs.declared.Verdict.{Verdict}
-use Rattle.refusal.specs.declared.Verdict.TheVariants.{Done}
 use Rattle.frame_fields.specs.Rows.{bytes_of}
 use Rattle.frame_form.specs.Forms.{long_segment, seg_of, form_at}
 use Rattle.frame_form.specs.Segments.{padding, last_used, frame_length}
@@ -18,6 +16,8 @@ use Rattle.frame_writer.proofs.Verdicts.{number-done, Passed, passed, refused}
 use Rattle.frame_writer.proofs.Answers.{put-done}
 use Rattle.refusal.proofs.Clauses.{two}
 use Rattle.frame_writer.proofs.put.Goals as goal
+use Rattle.refusal.specs.Numbers.{Verdict}
+use Rattle.std.specs.Prelude.{Ok}
 
 pub returns-then-refusal-ne0 : goal.returns-then-refusal-ne0
 returns-then-refusal-ne0 c =
@@ -33,7 +33,7 @@ put_frame-requires c =
     let a = c.args in
     let n = a.size + length a.user.now in
     let verdict : Verdict = write_verdict (form_at a.form) a.fits n (length a.out.now) in
-    let ok : verdict ≡ Done = number-done verdict (sym c.check_put-refusal.ensures ∙ omega (arith, c.if-refusal-ne0.false)) in
+    let ok : verdict ≡ Ok tt = number-done verdict (sym c.check_put-refusal.ensures ∙ omega (arith, c.if-refusal-ne0.false)) in
     let facts : Passed (form_at a.form) a.fits n (length a.out.now) = passed (form_at a.form) a.fits n (length a.out.now) ok in
     let padded : c.padding_of-pad.result ≡ padding (seg_of (form_at a.form)) n = c.padding_of-pad.ensures.value ∙ ap (λ (seg : ℕ). padding seg n) (sym facts.long) in
     let pad = c.padding_of-pad.ensures in
@@ -47,7 +47,7 @@ overflow_mul-result c =
     let a = c.args in
     let n = a.size + length a.user.now in
     let verdict : Verdict = write_verdict (form_at a.form) a.fits n (length a.out.now) in
-    let ok : verdict ≡ Done = number-done verdict (sym c.check_put-refusal.ensures ∙ omega (arith, c.if-refusal-ne0.false)) in
+    let ok : verdict ≡ Ok tt = number-done verdict (sym c.check_put-refusal.ensures ∙ omega (arith, c.if-refusal-ne0.false)) in
     let facts : Passed (form_at a.form) a.fits n (length a.out.now) = passed (form_at a.form) a.fits n (length a.out.now) ok in
     omega (arith, facts.few, c.padding_of-pad.ensures.few)
 
@@ -57,7 +57,7 @@ returns c =
     let a = c.args in
     let n = a.size + length a.user.now in
     let verdict : Verdict = write_verdict (form_at a.form) a.fits n (length a.out.now) in
-    let ok : verdict ≡ Done = number-done verdict (sym c.check_put-refusal.ensures ∙ omega (arith, c.if-refusal-ne0.false)) in
+    let ok : verdict ≡ Ok tt = number-done verdict (sym c.check_put-refusal.ensures ∙ omega (arith, c.if-refusal-ne0.false)) in
     let facts : Passed (form_at a.form) a.fits n (length a.out.now) = passed (form_at a.form) a.fits n (length a.out.now) ok in
     let padded : c.padding_of-pad.result ≡ padding (seg_of (form_at a.form)) n = c.padding_of-pad.ensures.value ∙ ap (λ (seg : ℕ). padding seg n) (sym facts.long) in
     let numbered : a.number + c.lv_of.result ≡ a.number + cond a.lv (last_used long_segment n) 0 =

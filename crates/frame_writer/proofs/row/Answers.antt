@@ -19,12 +19,12 @@ highest f n h some few =
 pub overflow_add-number : goal.overflow_add-number
 overflow_add-number c =
     let first : let a = c.args in
-    ((a.first * 2 ^ (8 * a.size - 8)) % 2 ^ 64 ≡ a.first * 2 ^ (8 * a.size - 8)) × (a.first * 2 ^ (8 * a.size - 8) < 2 ^ 56) = highest c.args.first c.args.size c.ranges.first.fits c.requires.1 c.requires.2 in omega (arith, first.0, first.1, c.all_at.ensures.few)
+    ((a.first * 2 ^ (8 * a.size - 8)) % 2 ^ 64 ≡ a.first * 2 ^ (8 * a.size - 8)) × (a.first * 2 ^ (8 * a.size - 8) < 2 ^ 56) = highest c.args.first c.args.size c.ranges.first.fits c.requires.0 c.requires.1 in omega (arith, first.0, first.1, c.all_at.ensures.few)
 
 pub returns : goal.returns
 returns c =
     let first : let a = c.args in
-    ((a.first * 2 ^ (8 * a.size - 8)) % 2 ^ 64 ≡ a.first * 2 ^ (8 * a.size - 8)) × (a.first * 2 ^ (8 * a.size - 8) < 2 ^ 56) = highest c.args.first c.args.size c.ranges.first.fits c.requires.1 c.requires.2 in
+    ((a.first * 2 ^ (8 * a.size - 8)) % 2 ^ 64 ≡ a.first * 2 ^ (8 * a.size - 8)) × (a.first * 2 ^ (8 * a.size - 8) < 2 ^ 56) = highest c.args.first c.args.size c.ranges.first.fits c.requires.0 c.requires.1 in
     let a = c.args in
     record {
       fits = ap (λ (t : Bool). t && (a.lv || eqb a.user 0)) c.all_below.ensures;

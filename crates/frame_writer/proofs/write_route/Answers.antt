@@ -7,7 +7,6 @@ use Prim.Native.Nat.{ℕ, ◌+◌, ◌*◌, ◌≤◌}
 use native.Mathlib.Omega.{arith}
 use lib.ListN.{length, drop, replicate, length-append}
 use borrow.Author.Tests.{eq-eqb, ne_eqb}
-use Rattle.refusal.specs.declared.Verdict.TheVariants.{Done}
 use Rattle.frame_fields.specs.Rows.{bytes_of}
 use Rattle.frame_form.specs.Forms.{long_segment, seg_of, form_at}
 use Rattle.frame_form.specs.Segments.{padding}
@@ -19,11 +18,12 @@ use Rattle.frame_writer.proofs.Verdicts.{number-done, Passed, passed}
 use Rattle.frame_writer.proofs.Routes.{route-header, route-refused, route-fits, route-done, after-length}
 use Rattle.refusal.proofs.Clauses.{two}
 use Rattle.frame_writer.proofs.write_route.Goals as goal
+use Rattle.std.specs.Prelude.{Ok}
 
 -- what is written, in both cases
 whole : (form optional initial n pad : ℕ) (table extra out : List ℕ) (last : List ℕ)
     → SameOrLong n (route_length optional (length table) (length extra))
-    → write_verdict (form_at form) (route_fits optional initial (length extra)) n (length out) ≡ Done
+    → write_verdict (form_at form) (route_fits optional initial (length extra)) n (length out) ≡ Ok tt
     → pad ≡ padding (seg_of (form_at form)) n
     → last ≡ (bytes_of 2 (0x7000 + 512 * optional + 256 * initial + length table) ++ (route_after optional table extra ++ replicate pad 0)) ++ drop (2 + length (route_after optional table extra) + pad) out
     → (256 * (n + pad) ≡ route_answer form optional initial (length table) (length extra) (length out)) × (last ≡ route_bytes form optional initial table extra out)
@@ -52,7 +52,7 @@ put_route-requires c =
     let a = c.args in
     let n = c.route_length-n.result in
     let fits : Bool = route_fits a.optional a.initial (length a.extra.now) in
-    let ok : write_verdict (form_at a.form) fits n (length a.out.now) ≡ Done = number-done _ (sym c.check_put-refusal.ensures ∙ omega (arith, c.if-refusal-ne0.false)) in
+    let ok : write_verdict (form_at a.form) fits n (length a.out.now) ≡ Ok tt = number-done _ (sym c.check_put-refusal.ensures ∙ omega (arith, c.if-refusal-ne0.false)) in
     let facts : Passed (form_at a.form) fits n (length a.out.now) = passed (form_at a.form) fits n (length a.out.now) ok in
     let padded : c.padding_of-pad.result ≡ padding (seg_of (form_at a.form)) n = c.padding_of-pad.ensures.value ∙ ap (λ (seg : ℕ). padding seg n) (sym facts.long) in
     let sized : n ≡ 2 + length (route_after a.optional a.table.now a.extra.now) = route-fits a.form a.optional a.initial a.table.now a.extra.now a.out.now fits n refl c.route_length-n.ensures.same_or_long ok in
@@ -70,7 +70,7 @@ returns-then-optional-eq1 c =
     let a = c.args in
     let n = c.route_length-n.result in
     let fits : Bool = route_fits a.optional a.initial (length a.extra.now) in
-    let ok : write_verdict (form_at a.form) fits n (length a.out.now) ≡ Done = number-done _ (sym c.check_put-refusal.ensures ∙ omega (arith, c.if-refusal-ne0.false)) in
+    let ok : write_verdict (form_at a.form) fits n (length a.out.now) ≡ Ok tt = number-done _ (sym c.check_put-refusal.ensures ∙ omega (arith, c.if-refusal-ne0.false)) in
     let facts : Passed (form_at a.form) fits n (length a.out.now) = passed (form_at a.form) fits n (length a.out.now) ok in
     let padded : c.padding_of-pad.result ≡ padding (seg_of (form_at a.form)) n = c.padding_of-pad.ensures.value ∙ ap (λ (seg : ℕ). padding seg n) (sym facts.long) in
     let pad = c.padding_of-pad.result in
@@ -85,7 +85,7 @@ put_frame-requires c =
     let a = c.args in
     let n = c.route_length-n.result in
     let fits : Bool = route_fits a.optional a.initial (length a.extra.now) in
-    let ok : write_verdict (form_at a.form) fits n (length a.out.now) ≡ Done = number-done _ (sym c.check_put-refusal.ensures ∙ omega (arith, c.if-refusal-ne0.false)) in
+    let ok : write_verdict (form_at a.form) fits n (length a.out.now) ≡ Ok tt = number-done _ (sym c.check_put-refusal.ensures ∙ omega (arith, c.if-refusal-ne0.false)) in
     let facts : Passed (form_at a.form) fits n (length a.out.now) = passed (form_at a.form) fits n (length a.out.now) ok in
     let padded : c.padding_of-pad.result ≡ padding (seg_of (form_at a.form)) n = c.padding_of-pad.ensures.value ∙ ap (λ (seg : ℕ). padding seg n) (sym facts.long) in
     let sized : n ≡ 2 + length (route_after a.optional a.table.now a.extra.now) = route-fits a.form a.optional a.initial a.table.now a.extra.now a.out.now fits n refl c.route_length-n.ensures.same_or_long ok in
@@ -103,7 +103,7 @@ returns c =
     let a = c.args in
     let n = c.route_length-n.result in
     let fits : Bool = route_fits a.optional a.initial (length a.extra.now) in
-    let ok : write_verdict (form_at a.form) fits n (length a.out.now) ≡ Done = number-done _ (sym c.check_put-refusal.ensures ∙ omega (arith, c.if-refusal-ne0.false)) in
+    let ok : write_verdict (form_at a.form) fits n (length a.out.now) ≡ Ok tt = number-done _ (sym c.check_put-refusal.ensures ∙ omega (arith, c.if-refusal-ne0.false)) in
     let facts : Passed (form_at a.form) fits n (length a.out.now) = passed (form_at a.form) fits n (length a.out.now) ok in
     let padded : c.padding_of-pad.result ≡ padding (seg_of (form_at a.form)) n = c.padding_of-pad.ensures.value ∙ ap (λ (seg : ℕ). padding seg n) (sym facts.long) in
     let pad = c.padding_of-pad.result in

@@ -10,5 +10,5 @@ use Rattle.replay_script.proofs.put_answer.Goals as goal
 pub returns : goal.returns
 returns c =
     let sized : length c.args.answer.tickets ≡ 32 = search rules in
-    answer-written c.args.answer sized c.count.ensures c.count-2.ensures c.at_most.ensures.1
-    c.put_number-nesn.ensures c.put_spaced-held.ensures c.put_spaced-clocks.ensures c.put_result-result.ensures c.put_byte.ensures
+    answer-written c.args.answer _ _ c.requires c.put_number-nesn.ensures c.put_spaced-held.ensures c.put_spaced-clocks.ensures
+    sized c.count.ensures c.count-2.ensures c.at_most-count.ensures.1 c.put_result-result.ensures c.put_byte.ensures

@@ -5,4 +5,4 @@ use Rattle.replay_script.proofs.put_refusal.Goals as goal
 
 pub returns : goal.returns
 returns c =
-    number-refused c.args.why c.number.ensures c.put_word-end.ensures c.put_spaced.ensures
+    number-refused c.args.why c.number.ensures c.requires c.put_word-end.ensures c.put_spaced.ensures

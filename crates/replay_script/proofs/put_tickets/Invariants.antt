@@ -3,8 +3,8 @@
 -- Assumes nothing.
 use Prim.Native.Nat.{◌-◌, ◌*◌, ◌≤◌}
 use lib.ListN.{take}
+use Rattle.text.specs.Writing.{Wrote}
 use Rattle.replay_script.specs.Text.{all_spaced}
-use Rattle.replay_script.specs.Writing.{Wrote}
 use Rattle.replay_script.proofs.put_tickets.Given as goal
 
 abbrev pub invariant-loop-i : goal.invariant-loop-i

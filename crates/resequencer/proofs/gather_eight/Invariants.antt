@@ -2,14 +2,11 @@
 -- been tested.
 -- Assumes nothing.
 use mathlib.Core.Path.{◌≡◌}
-use Prim.Native.Nat.{◌+◌, ◌-◌, ◌/◌, ◌%◌, ◌^◌, ◌≤◌}
+use Prim.Native.Nat.{◌+◌}
 use lib.Dec.{eqb}
 use Rattle.wordset.specs.Sets.{every}
 use Rattle.resequencer.specs.Parts.{ticket_fits}
 use Rattle.resequencer.proofs.gather_eight.Given as goal
 
 abbrev pub invariant-loop-j : goal.invariant-loop-j
-invariant-loop-j l = (l.j ≤ 8) × ((l.eight ≡ l.held / 2 ^ l.p % 256) × (eqb l.ones 0 ≡ every (l.p + l.j) (ticket_fits l.held l.tickets)))
-
-abbrev pub decreases-loop-j : goal.decreases-loop-j
-decreases-loop-j l = 8 - l.j
+invariant-loop-j l = eqb l.ones 0 ≡ every (l.p + l.j) (ticket_fits l.held l.tickets)

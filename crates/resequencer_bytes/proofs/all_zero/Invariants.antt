@@ -1,15 +1,13 @@
--- `resequencer_bytes::all_zero` meets its contract: after i turns i tickets have been tested.
+-- `resequencer_bytes::all_zero` meets its contract: after each turn one more ticket has been
+-- tested.
 -- Assumes nothing.
 use mathlib.Core.Path.{◌≡◌}
-use Prim.Native.Nat.{◌-◌, ◌≤◌}
 use lib.Dec.{eqb}
+use lib.ListN.{drop}
 use Rattle.wordset.specs.Sets.{every}
 use Rattle.resequencer.specs.Parts.{ticket_fits}
 use Rattle.resequencer_bytes.specs.Parts.{tickets_in}
 use Rattle.resequencer_bytes.proofs.all_zero.Given as goal
 
-abbrev pub invariant-loop-i : goal.invariant-loop-i
-invariant-loop-i l = (l.i ≤ 64) × (eqb l.stray 0 ≡ every l.i (ticket_fits 0 (tickets_in l.tickets)))
-
-abbrev pub decreases-loop-i : goal.decreases-loop-i
-decreases-loop-i l = 64 - l.i
+abbrev pub invariant-loop-number : goal.invariant-loop-number
+invariant-loop-number l = eqb l.stray 0 ≡ every l.number (ticket_fits 0 (tickets_in (drop 18 l.state)))

@@ -2,15 +2,13 @@
 -- have been tested.
 -- Assumes nothing.
 use mathlib.Core.Path.{◌≡◌}
-use Prim.Native.Nat.{◌+◌, ◌-◌, ◌/◌, ◌%◌, ◌^◌, ◌≤◌}
+use Prim.Native.Nat.{◌+◌}
 use lib.Dec.{eqb}
+use lib.ListN.{drop}
 use Rattle.wordset.specs.Sets.{every}
 use Rattle.resequencer.specs.Parts.{ticket_fits}
 use Rattle.resequencer_bytes.specs.Parts.{tickets_in}
 use Rattle.resequencer_bytes.proofs.gather_eight.Given as goal
 
 abbrev pub invariant-loop-j : goal.invariant-loop-j
-invariant-loop-j l = (l.j ≤ 8) × (l.eight ≡ l.held / 2 ^ l.p % 256) × (eqb l.ones 0 ≡ every (l.p + l.j) (ticket_fits l.held (tickets_in l.tickets)))
-
-abbrev pub decreases-loop-j : goal.decreases-loop-j
-decreases-loop-j l = 8 - l.j
+invariant-loop-j l = eqb l.ones 0 ≡ every (l.p + l.j) (ticket_fits l.held (tickets_in (drop 18 l.state)))

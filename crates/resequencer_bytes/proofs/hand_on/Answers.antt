@@ -44,8 +44,7 @@ loop-left-init c =
       0,
       handed-first _ _ _ _ _ _ _ _ p.own p.none c.stretch-left.ensures p.cleared,
       length-set a.out.now 0 a.ticket ∙ ap length p.cleared,
-      p.size,
-      left-starts b p.size (λ i h. (c.slice_known-1.given i).fits) (state_in b).nesn.0 a.d p.own (nesn-low b p.order) (nesn-bare b p.order) ∙ ap (passed b) z,
+      left-starts b c.told-state (λ i h. c.fits-state i) (state_in b).nesn.0 a.d p.own (nesn-low b p.order) (nesn-bare b p.order) ∙ ap (passed b) z,
     )
 
 pub overflow_cast-to : goal.overflow_cast-to
@@ -55,7 +54,7 @@ pub overflow_add-start : goal.overflow_add-start
 overflow_add-start c = let p = c.requires in omega (arith, p.start_is, p.own, nesn-low _ p.order, c.lowest.ensures, first-le 64 (member c.loop-left.left))
 
 pub take_ticket-requires : goal.take_ticket-requires
-take_ticket-requires c = (c.loop-left.invariant.3, omega arith)
+take_ticket-requires c = omega arith
 
 pub offset_bounds-out-to : goal.offset_bounds-out-to
 offset_bounds-out-to c = omega arith
@@ -87,23 +86,19 @@ loop-left-preserved c =
     let v = l.invariant in
     let z = lowest 64 l.left in
     let turn = handed-turn _ _ _ _ _ _ _ _ _ _ v.1 some in
-    let low : Below 256 b = λ i h. (c.slice_known-1.given i).fits in
+    let low : Below 256 b = λ i h. c.fits-state i in
     let near : a.d + z < 64 = omega (arith, p.most, turn.in-stretch) in
     let number = (a.start + c.lowest.result) % 64 in
     let place : number ≡ ((state_in b).nesn.0 + (a.d + z)) % 64 = omega (arith, p.start_is, c.lowest.ensures) in
-    let e : l.state ≡ passed b (a.d + z) = v.4 ∙ past b _ _ _ _ _ _ p v.0 z turn.low (omega (arith, turn.in-stretch)) turn.none_before in
+    let e : l.state ≡ passed b (a.d + z) = v.3 ∙ past b _ _ _ _ _ _ p v.0 z turn.low (omega (arith, turn.in-stretch)) turn.none_before in
     let one : a.d + z + 1 ≡ a.d + (z + 1) = omega arith in
-    let taken = left-taken b p.size low (state_in b).nesn.0 (a.d + z) number l.state near place e _ c.take_ticket.ensures.state_after in (
+    let taken = left-taken b c.told-state low (state_in b).nesn.0 (a.d + z) number l.state near place e _ c.take_ticket.ensures.state_after in (
       z + 1,
       handed-next _ _ _ _ _ _ _ _ _ _ v.1 _ _ _ _ p.most some c.lowest.ensures c.without_lowest-left.ensures refl
-          (ap (set l.out l.count) (left-ticket b p.size low (state_in b).nesn.0 (a.d + z) number l.state near place e c.take_ticket.result c.take_ticket.ensures.value)),
+          (ap (set l.out l.count) (left-ticket b c.told-state low (state_in b).nesn.0 (a.d + z) number l.state near place e c.take_ticket.result c.take_ticket.ensures.value)),
       length-set l.out l.count c.take_ticket.result ∙ v.2,
-      taken.0,
-      taken.1 ∙ ap (passed b) one,
+      taken ∙ ap (passed b) one,
     )
-
-pub shape_of-state : goal.shape_of-state
-shape_of-state c = c.loop-left.invariant.3 ∙ sym c.requires.size
 
 pub shape_of-out : goal.shape_of-out
 shape_of-out c = c.loop-left.invariant.2 ∙ sym (ap length c.requires.cleared)
@@ -118,4 +113,4 @@ returns c =
     let none : c.loop-left.left ≡ 0 = omega (arith, c.loop-left-test.false) in
     let h : a.m ≤ 64 = omega (arith, p.most) in
     let e = handed-end _ _ _ _ _ _ _ _ _ _ v.1 h none in
-    (e.0, (e.1, v.4 ∙ past b _ _ _ _ _ _ p v.0 a.m v.1.walked.most (omega arith) (walk_ends 64 _ _ _ _ _ h v.1.walked none))))
+    (e.0, (e.1, v.3 ∙ past b _ _ _ _ _ _ p v.0 a.m v.1.walked.most (omega arith) (walk_ends 64 _ _ _ _ _ h v.1.walked none))))

@@ -18,7 +18,7 @@ passed b k = with_tickets b (tickets_left (tickets_in (drop 18 b)) (state_in b).
 abbrev pub invariant-loop-left : goal.invariant-loop-left
 invariant-loop-left l =
     (at : ℕ) × Handed l.held (tickets_in (drop 18 l.initial.state)) (arrived_tickets l.d l.ticket) l.start l.d l.m l.left at l.count l.out
-    × (length l.out ≡ 32) × (length l.state ≡ 146) × (l.state ≡ passed l.initial.state (l.d + at))
+    × (length l.out ≡ 32) × (l.state ≡ passed l.initial.state (l.d + at))
 
 abbrev pub decreases-loop-left : goal.decreases-loop-left
 decreases-loop-left l = l.left

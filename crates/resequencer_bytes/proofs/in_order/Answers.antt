@@ -1,11 +1,10 @@
--- `resequencer_bytes::in_order` meets its contract: good order is that of the numbers, with tickets
--- that fit them.
+-- `resequencer_bytes::in_order` meets its contract: bytes of another length are no state.
 -- Assumes nothing.
 use mathlib.Core.Path.{sym, ap, ◌∙◌}
 use mathlib.Core.Bool.{Bool, cond}
+use mathlib.Core.List.{List}
 use Prim.Native.Nat.{ℕ}
-use Rattle.resequencer.specs.Numbers.{numbers_in_order}
-use Rattle.resequencer.proofs.Steps.{order-told, order-stray}
+use Rattle.resequencer.specs.State.{in_order}
 use Rattle.resequencer_bytes.specs.Stored.{state_in}
 use Rattle.resequencer_bytes.proofs.Calls.{order-none, order-code}
 use Rattle.resequencer_bytes.proofs.in_order.Goals as goal
@@ -14,22 +13,17 @@ use Rattle.resequencer_bytes.proofs.in_order.Goals as goal
 abbrev told : Bool → ℕ
 told good = cond good 0 14
 
-pub returns-then-state-ne146 : goal.returns-then-state-ne146
-returns-then-state-ne146 c = order-none c.args.state.now c.if-state-ne146.true
+pub returns-in_default : goal.returns-in_default
+returns-in_default c = order-none c.args.state.now c.in_default.ensures.cases
 
-pub returns-then-in_order : goal.returns-then-in_order
-returns-then-in_order c =
-    let b = c.args.state.now in
-    ap told (sym c.if-in_order.true)
-    ∙ order-code b _ c.if-state-ne146.false (order-told (state_in b) _ _ c.tickets_in_order.ensures c.if-tickets_in_order.true (c.in_order.ensures ∙ ap numbers_in_order c.numbers_in-numbers.ensures))
+pub returns-then-good_order : goal.returns-then-good_order
+returns-then-good_order c =
+    let whole = c.in-Some.ensures.cases in
+    ap told (sym c.if-good_order.true)
+    ∙ order-code c.args.state.now _ whole.long (c.good_order.ensures ∙ ap (λ (b : List ℕ). in_order (state_in b)) whole.same)
 
-pub returns-else-in_order : goal.returns-else-in_order
-returns-else-in_order c =
-    let b = c.args.state.now in
-    ap told (sym c.if-in_order.false)
-    ∙ order-code b _ c.if-state-ne146.false (order-told (state_in b) _ _ c.tickets_in_order.ensures c.if-tickets_in_order.true (c.in_order.ensures ∙ ap numbers_in_order c.numbers_in-numbers.ensures))
-
-pub returns-else-tickets_in_order : goal.returns-else-tickets_in_order
-returns-else-tickets_in_order c =
-    let b = c.args.state.now in
-    ap told (sym c.if-tickets_in_order.false) ∙ order-code b _ c.if-state-ne146.false (order-stray (state_in b) _ c.tickets_in_order.ensures c.if-tickets_in_order.false)
+pub returns-else-good_order : goal.returns-else-good_order
+returns-else-good_order c =
+    let whole = c.in-Some.ensures.cases in
+    ap told (sym c.if-good_order.false)
+    ∙ order-code c.args.state.now _ whole.long (c.good_order.ensures ∙ ap (λ (b : List ℕ). in_order (state_in b)) whole.same)

@@ -4,4 +4,4 @@ use Rattle.resequencer_bytes.proofs.Reading.{read-numbers}
 use Rattle.resequencer_bytes.proofs.numbers_in.Goals as goal
 
 pub returns : goal.returns
-returns c = read-numbers c.args.state.now _ _ c.word-held.ensures c.word-clocks.ensures
+returns c = read-numbers c.args.state.now _ _ c.word.ensures c.word-2.ensures

@@ -3,7 +3,7 @@
 -- Assumes nothing.
 use mathlib.Core.Path.{sym, ap, ◌∙◌}
 use Prim.Native.Nat.{ℕ}
-use lib.ListN.{take, drop}
+use lib.ListN.{drop}
 use Rattle.wordset.specs.Sets.{every}
 use Rattle.resequencer.specs.Parts.{ticket_fits}
 use Rattle.resequencer_bytes.specs.Parts.{tickets_in}
@@ -12,8 +12,7 @@ use Rattle.resequencer_bytes.proofs.tickets_in_order.Goals as goal
 
 pub returns-then-held-eq0 : goal.returns-then-held-eq0
 returns-then-held-eq0 c =
-    let b = c.args.state.now in
-    stored-fit b _ _ c.requires c.word-held.ensures (c.all_zero.ensures ∙ ap (λ (held : ℕ). every 64 (ticket_fits held (tickets_in (take 128 (drop 18 b))))) (sym c.if-held-eq0.true))
+    stored-fit c.args.state.now _ _ c.word-held.ensures (c.all_zero.ensures ∙ ap (λ (held : ℕ). every 64 (ticket_fits held (tickets_in (drop 18 c.args.state.now)))) (sym c.if-held-eq0.true))
 
 pub returns-else-held-eq0 : goal.returns-else-held-eq0
-returns-else-held-eq0 c = stored-fit c.args.state.now _ _ c.requires c.word-held.ensures c.none_stray.ensures
+returns-else-held-eq0 c = stored-fit c.args.state.now _ _ c.word-held.ensures c.none_stray.ensures

@@ -1,8 +1,9 @@
--- `resequencer_bytes::word` meets its contract: the eight elements read are the whole slice.
+-- `resequencer_bytes::word` meets its contract: the eight bytes read are those from `at` on.
 -- Assumes nothing.
 use mathlib.Core.Path.{◌∙◌}
-use Rattle.resequencer_bytes.proofs.Reading.{eight-places}
+use native.Mathlib.Omega.{arith}
+use Rattle.resequencer_bytes.proofs.Reading.{eight-bytes}
 use Rattle.resequencer_bytes.proofs.word.Goals as goal
 
 pub returns : goal.returns
-returns c = c.eight.ensures ∙ eight-places c.args.bytes.now c.requires
+returns c = c.from_le_bytes.ensures ∙ eight-bytes c.args.state.now c.args.at (omega (arith, c.told-state))

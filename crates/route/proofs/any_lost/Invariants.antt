@@ -3,12 +3,9 @@
 -- Assumes nothing.
 use mathlib.Core.Path.{◌≡◌}
 use mathlib.Core.Bool.{false}
-use Prim.Native.Nat.{◌-◌, ◌≤◌}
-use Rattle.route.specs.Parts.{lost_in, NoneFrom}
+use Prim.Native.Nat.{ℕ, ◌+◌, ◌<◌}
+use Rattle.route.specs.Parts.{lost_in}
 use Rattle.route.proofs.any_lost.Given as goal
 
-abbrev pub invariant-loop-i : goal.invariant-loop-i
-invariant-loop-i l = (l.i ≤ 16) × (l.any ≡ false → NoneFrom l.from l.i (lost_in l.before l.after))
-
-abbrev pub decreases-loop-i : goal.decreases-loop-i
-decreases-loop-i l = 16 - l.i
+abbrev pub invariant-loop-a : goal.invariant-loop-a
+invariant-loop-a l = l.any ≡ false → (i : ℕ) → l.from + i < l.a → lost_in l.before l.after (l.from + i) ≡ false

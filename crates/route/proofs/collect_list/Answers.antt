@@ -14,15 +14,6 @@ use Rattle.route.proofs.collect_list.Goals as goal
 pub loop-at-init : goal.loop-at-init
 loop-at-init c = going_start _ _
 
-pub slice_bounds-take_entry-count : goal.slice_bounds-take_entry-count
-slice_bounds-take_entry-count c = omega arith
-
-pub slice_bounds-take_entry-start : goal.slice_bounds-take_entry-start
-slice_bounds-take_entry-start c = omega arith
-
-pub slice_bounds-take_entry-end : goal.slice_bounds-take_entry-end
-slice_bounds-take_entry-end c = omega arith
-
 pub returns-then-size-eq0 : goal.returns-then-size-eq0
 returns-then-size-eq0 c =
     let entry : Taken = taken c.take_entry-size.result c.take_entry-size.new.added c.take_entry-size.new.deleted in

@@ -2,13 +2,10 @@
 -- blocks passed.
 -- Assumes nothing.
 use mathlib.Core.Path.{◌≡◌}
-use Prim.Native.Nat.{◌-◌, ◌*◌, ◌≤◌}
+use Prim.Native.Nat.{◌*◌}
 use Rattle.route.specs.Updating.{those}
-use Rattle.route.specs.Parts.{report, report_of, lost_in}
+use Rattle.route.specs.Parts.{report_of, lost_in}
 use Rattle.route.proofs.lost_between.Given as goal
 
 abbrev pub invariant-loop-block : goal.invariant-loop-block
-invariant-loop-block l = (l.block ≤ 16) × (report l.count l.lost ≡ report_of (those (l.block * 16) (lost_in l.before l.after)))
-
-abbrev pub decreases-loop-block : goal.decreases-loop-block
-decreases-loop-block l = 16 - l.block
+invariant-loop-block l = l.report ≡ report_of (those (l.block * 16) (lost_in l.before l.after))

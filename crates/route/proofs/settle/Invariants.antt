@@ -2,14 +2,9 @@
 -- written.
 -- Assumes nothing.
 use mathlib.Core.Path.{◌≡◌}
-use Prim.Native.Nat.{◌-◌, ◌≤◌}
 use Rattle.lists.proofs.Lists.{filled}
 use Rattle.route.specs.Parts.{change, settled_at}
 use Rattle.route.proofs.settle.Given as goal
 
 abbrev pub invariant-loop-a : goal.invariant-loop-a
-invariant-loop-a l =
-    (l.a ≤ 256) × (l.next ≡ filled 256 (settled_at l.codes (change l.added l.deleted)) l.a)
-
-abbrev pub decreases-loop-a : goal.decreases-loop-a
-decreases-loop-a l = 256 - l.a
+invariant-loop-a l = l.next ≡ filled 256 (settled_at l.codes (change l.added l.deleted)) l.a

@@ -4,27 +4,20 @@
 use mathlib.Core.Path.{ap₂, ◌∙◌}
 use mathlib.Core.List.{List}
 use Prim.Native.Nat.{ℕ}
-use native.Mathlib.Omega.{arith}
 use lib.ListN.{set}
 use Rattle.lists.proofs.Lists.{fill_start, fill-next, fill_end}
 use Rattle.route_bytes.proofs.Bytes.{sets-read}
 use Rattle.route_bytes.proofs.read_table.Goals as goal
 
 pub loop-a-init : goal.loop-a-init
-loop-a-init c = (omega arith, fill_start 256 _)
-
-pub overflow_add-a : goal.overflow_add-a
-overflow_add-a c = omega arith
-
-pub loop-a-smaller : goal.loop-a-smaller
-loop-a-smaller c = omega arith
+loop-a-init c = fill_start 256 _
 
 pub loop-a-preserved : goal.loop-a-preserved
 loop-a-preserved c =
     let l = c.loop-a in
-    (omega arith, ap₂ (λ (t : List ℕ) (v : ℕ). set t l.a v) l.invariant.1 c.set_at.ensures ∙ fill-next 256 _ l.a)
+    ap₂ (λ (t : List ℕ) (v : ℕ). set t l.a v) l.invariant c.set_at.ensures ∙ fill-next 256 _ l.a
 
 pub returns : goal.returns
 returns c =
     let l = c.loop-a in
-    l.invariant.1 ∙ fill_end 256 _ l.a c.loop-a-test.false ∙ sets-read _
+    l.invariant ∙ fill_end 256 _ l.a c.loop-a-test.false ∙ sets-read _

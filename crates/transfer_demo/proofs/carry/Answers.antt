@@ -8,13 +8,14 @@ use lib.ListN.{length, take, length-take}
 use lib.Seq.{length-take-le}
 use Rattle.frame_form.specs.declared.Form.{Form}
 use Rattle.message.specs.declared.cutting.Start.{Start}
-use Rattle.message.specs.declared.cutting.Cut.{Cut}
-use Rattle.message.specs.declared.cutting.Cut.TheVariants.{Frames}
-use Rattle.message.specs.Cutting.{frames_of, cut_verdict, cut_of}
+use Rattle.message.specs.Cutting.{frames_of, cut_verdict, cut_of, cut_into}
 use Rattle.message.proofs.Passed.{by_frames, passed}
 use Rattle.transfer_demo.proofs.carry.Goals as goal
+use Rattle.message.specs.declared.cutting.Cut.{Cut}
+use Rattle.std.specs.Prelude.{Result}
+use Rattle.refusal.specs.declared.Refusal.{Refusal}
 
-cut_fits : (form : Form) (s : Start) (message : List ℕ) (room places : ℕ) {r : Cut} {count bytes : ℕ} → r ≡ cut_of form s message room places → r ≡ Frames count bytes
+cut_fits : (form : Form) (s : Start) (message : List ℕ) (room places : ℕ) {r : (Result Cut Refusal)} {count bytes : ℕ} → r ≡ cut_of form s message room places → r ≡ cut_into count bytes
     → (count ≤ places) × (bytes ≤ room)
 unfolding cut_of
 cut_fits form s message room places {r} {count} {bytes} e q =
@@ -36,24 +37,24 @@ module _ (n long : ℕ) (xs : List ℕ) (e : length xs ≡ long) where
 pub slice_bounds-cross-end : goal.slice_bounds-cross-end
 slice_bounds-cross-end c =
     let w = c.cut_message-cut in
-    in_list _ _ w.new.lengths w.auto.lengths (cut_fits _ _ _ _ _ w.ensures.value c.in-Frames.is).0
+    in_list _ _ w.new.lengths w.auto.lengths (cut_fits _ _ _ _ _ w.ensures.value c.in-Ok.is).0
 
-pub slice_bounds-cross-end-in-Frames : goal.slice_bounds-cross-end-in-Frames
-slice_bounds-cross-end-in-Frames c =
+pub slice_bounds-cross-end-in-Ok : goal.slice_bounds-cross-end-in-Ok
+slice_bounds-cross-end-in-Ok c =
     let w = c.cut_message-cut in
-    part-counted _ _ w.new.lengths w.auto.lengths (cut_fits _ _ _ _ _ w.ensures.value c.in-Frames.is).0
+    part-counted _ _ w.new.lengths w.auto.lengths (cut_fits _ _ _ _ _ w.ensures.value c.in-Ok.is).0
 
-pub slice_bounds-cross-end-in-Frames-2 : goal.slice_bounds-cross-end-in-Frames-2
-slice_bounds-cross-end-in-Frames-2 c =
+pub slice_bounds-cross-end-in-Ok-2 : goal.slice_bounds-cross-end-in-Ok-2
+slice_bounds-cross-end-in-Ok-2 c =
     let w = c.cut_message-cut in
-    in_list _ _ w.new.out w.auto.out (cut_fits _ _ _ _ _ w.ensures.value c.in-Frames.is).1
+    in_list _ _ w.new.out w.auto.out (cut_fits _ _ _ _ _ w.ensures.value c.in-Ok.is).1
 
-pub slice_bounds-cross-end-in-Frames-3 : goal.slice_bounds-cross-end-in-Frames-3
-slice_bounds-cross-end-in-Frames-3 c =
+pub slice_bounds-cross-end-in-Ok-3 : goal.slice_bounds-cross-end-in-Ok-3
+slice_bounds-cross-end-in-Ok-3 c =
     let w = c.cut_message-cut in
-    part-counted _ _ w.new.out w.auto.out (cut_fits _ _ _ _ _ w.ensures.value c.in-Frames.is).1
+    part-counted _ _ w.new.out w.auto.out (cut_fits _ _ _ _ _ w.ensures.value c.in-Ok.is).1
 
 pub cross-requires : goal.cross-requires
 cross-requires c =
     let w = c.cut_message-cut in
-    part-few c.in-Frames.count _ w.new.lengths w.auto.lengths 164 c.requires
+    part-few c.in-Ok.made.frames _ w.new.lengths w.auto.lengths 164 c.requires

@@ -8,12 +8,8 @@ use borrow.Author.Rules.{rules}
 use Rattle.resequencer.specs.Events.{handed}
 use Rattle.transfer_demo.proofs.count_handed.Goals as goal
 
-pub returns-then-count-lt32 : goal.returns-then-count-lt32
+pub returns : goal.returns
 unfolding handed
-returns-then-count-lt32 c =
-    let long : length c.args.answer.tickets ≡ 32 = search rules in omega (arith, long, length-take c.args.answer.count c.args.answer.tickets)
-
-pub returns-else-count-lt32 : goal.returns-else-count-lt32
-unfolding handed
-returns-else-count-lt32 c =
-    let long : length c.args.answer.tickets ≡ 32 = search rules in omega (arith, long, length-take c.args.answer.count c.args.answer.tickets)
+returns c =
+    let long : length c.args.answer.tickets ≡ 32 = search rules in
+    (omega (arith, long, length-take c.args.answer.count c.args.answer.tickets, c.min.ensures), omega (arith, c.min.ensures))

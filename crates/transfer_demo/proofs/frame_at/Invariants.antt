@@ -8,6 +8,3 @@ use Rattle.transfer_demo.proofs.frame_at.Given as goal
 
 abbrev pub invariant-loop-i : goal.invariant-loop-i
 invariant-loop-i l = Before l.lengths l.frames l.place l.at l.i
-
-abbrev pub decreases-loop-i : goal.decreases-loop-i
-decreases-loop-i l = length l.lengths - l.i

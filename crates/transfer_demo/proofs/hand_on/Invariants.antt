@@ -10,7 +10,4 @@ use Rattle.transfer_demo.proofs.hand_on.Given as goal
 
 abbrev pub invariant-loop-i : goal.invariant-loop-i
 invariant-loop-i l =
-    (l.i ≤ l.count) × Taken l.initial.received l.initial.sizes l.initial.kept (map (frame_at (parts_of l.lengths l.frames)) (take l.i l.tickets)) l.received l.sizes l.kept
-
-abbrev pub decreases-loop-i : goal.decreases-loop-i
-decreases-loop-i l = l.count - l.i
+    Taken l.initial.received l.initial.sizes l.initial.kept (map (frame_at (parts_of l.lengths l.frames)) (take l.i l.answer.tickets)) l.received l.sizes l.kept

@@ -10,20 +10,20 @@ pub loop-i-init : goal.loop-i-init
 loop-i-init c = starts _ _ _ _ _ c.fresh-state.ensures
 
 pub answer_to-answer-requires : goal.answer_to-answer-requires
-answer_to-answer-requires c = (sym c.happens.ensures ∙ c.if-happens.true, omega (arith, c.requires))
+answer_to-answer-requires c = (sym c.happens.ensures ∙ c.if-not-happens.false, omega (arith, c.requires))
 
-pub hand_on-more-requires : goal.hand_on-more-requires
-hand_on-more-requires c = let h = c.loop-i.invariant.holds in (h.count_fits, h.total-fits)
-
-pub loop-i-preserved-then-happens : goal.loop-i-preserved-then-happens
-loop-i-preserved-then-happens c =
-    let w = c.hand_on-more in
-    turn-made _ _ _ _ _ _ _ _ _ _ c.loop-i.invariant c.loop-i-test.true _ c.event_at-event.ensures
-    c.answer_to-answer.result _ _ w.result (sym c.happens.ensures ∙ c.if-happens.true) c.answer_to-answer.ensures
-    w.auto.received w.auto.sizes w.ensures.written
+pub hand_on-handed-requires : goal.hand_on-handed-requires
+hand_on-handed-requires c = let h = c.loop-i.invariant.holds in (h.count_fits, h.total-fits)
 
 pub loop-i-preserved : goal.loop-i-preserved
-loop-i-preserved c = turn-left-out _ _ _ _ _ _ _ _ _ _ c.loop-i.invariant c.loop-i-test.true _ c.event_at-event.ensures (sym c.happens.ensures ∙ c.if-happens.false)
+loop-i-preserved c =
+    let w = c.hand_on-handed in
+    turn-made _ _ _ _ _ _ _ _ _ _ c.loop-i.invariant c.loop-i-test.true _ c.event_at-event.ensures
+    c.answer_to-answer.result _ _ w.result (sym c.happens.ensures ∙ c.if-not-happens.false) c.answer_to-answer.ensures
+    w.auto.received w.auto.sizes w.ensures.written
+
+pub loop-i-preserved-then-not-happens : goal.loop-i-preserved-then-not-happens
+loop-i-preserved-then-not-happens c = turn-left-out _ _ _ _ _ _ _ _ _ _ c.loop-i.invariant c.loop-i-test.true _ c.event_at-event.ensures (sym c.happens.ensures ∙ c.if-not-happens.true)
 
 pub shape_of-received : goal.shape_of-received
 shape_of-received c = c.loop-i.invariant.room

@@ -10,6 +10,3 @@ use Rattle.transfer_demo.proofs.receive.Given as goal
 abbrev pub invariant-loop-i : goal.invariant-loop-i
 invariant-loop-i l =
     Going (parts_of l.lengths l.frames) (length l.lengths) l.steps l.initial.received l.initial.sizes l.received l.sizes l.state l.handed l.i
-
-abbrev pub decreases-loop-i : goal.decreases-loop-i
-decreases-loop-i l = l.steps - l.i

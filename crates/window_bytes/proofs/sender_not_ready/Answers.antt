@@ -1,35 +1,9 @@
--- `window_bytes::sender_not_ready` meets its contract: `put_pr` writes the end that `not_ready`
--- returns; bytes that encode no end are not written.
+-- `window_bytes::sender_not_ready` meets its contract: a refused PR changes nothing.
 -- Assumes nothing.
-use mathlib.Core.Path.{◌≡◌, refl, sym, ap, ◌∙◌}
-use mathlib.Core.Bool.{true}
-use Rattle.window.specs.declared.sender.Sender.{Sender}
-use Rattle.window.specs.History.{not_ready, pr_of}
-use Rattle.window_bytes.specs.Stored.{is_sender, sender_in, pr_answer, pr_bytes}
-use Rattle.window_bytes.proofs.Stored.{sender-length}
-use Rattle.window_bytes.proofs.Calls.{pr-asks, pr-told}
-use Rattle.refusal.proofs.Clauses.{three, two}
+use Rattle.window.specs.History.{not_ready}
+use mathlib.Core.Path.{sym, ◌∙◌}
+use Rattle.window_bytes.proofs.Kept.{pr-kept}
 use Rattle.window_bytes.proofs.sender_not_ready.Goals as goal
 
-pub sender_in-end-requires : goal.sender_in-end-requires
-sender_in-end-requires c =
-    let encoded : is_sender c.args.state.now ≡ true = sym c.is_sender.ensures ∙ c.if-is_sender.true in sender-length _ encoded
-
-pub put_pr-requires : goal.put_pr-requires
-put_pr-requires c =
-    three (λ p q r. record { state_len = p; ps_value = q; next_value = r })
-    (let encoded : is_sender c.args.state.now ≡ true = sym c.is_sender.ensures ∙ c.if-is_sender.true in
-    let answered : c.not_ready.result ≡ pr_of not_ready (sender_in c.args.state.now) c.args.pr = c.not_ready.ensures.value ∙ ap (λ (s : Sender). pr_of not_ready s c.args.pr) c.sender_in-end.ensures in pr-asks not_ready _ _ encoded _ answered)
-
-pub returns-then-is_sender : goal.returns-then-is_sender
-returns-then-is_sender c =
-    two (λ p q. record { value = p; state_after = q })
-    (let encoded : is_sender c.args.state.now ≡ true = sym c.is_sender.ensures ∙ c.if-is_sender.true in
-    let answered : c.not_ready.result ≡ pr_of not_ready (sender_in c.args.state.now) c.args.pr = c.not_ready.ensures.value ∙ ap (λ (s : Sender). pr_of not_ready s c.args.pr) c.sender_in-end.ensures in
-    pr-told not_ready _ _ encoded _ answered _ c.put_pr.ensures.value _ c.put_pr.ensures.state_after)
-
-pub returns-else-is_sender : goal.returns-else-is_sender
-unfolding pr_answer pr_bytes
-returns-else-is_sender c =
-    two (λ p q. record { value = p; state_after = q })
-    (rw (sym c.is_sender.ensures ∙ c.if-is_sender.false) (refl, refl))
+pub put_pr-requires-clause-next_value : goal.put_pr-requires-clause-next_value
+put_pr-requires-clause-next_value c = pr-kept not_ready _ _ _ _ (sym c.is_sender.ensures ∙ c.if-not-is_sender.false) c.sender_in-end.ensures c.not_ready.ensures.value

@@ -7,7 +7,6 @@ use Prim.Native.Nat.{ℕ, ◌+◌, ◌-◌}
 use native.Mathlib.Omega.{arith}
 use lib.ListN.{length, take, drop, set, length-drop, drop_of_length-le}
 use lib.Seq.{drop-drop, length-take-le}
-use Rattle.refusal.specs.declared.Verdict.TheVariants.{Done}
 use Rattle.frame_form.specs.declared.Form.{Form}
 use Rattle.frame_form.specs.Forms.{long_segment}
 use Rattle.frame_form.specs.Segments.{frame_length}
@@ -18,9 +17,10 @@ use Rattle.frame.specs.declared.Packet.TheVariants.{Data}
 use Rattle.frame.specs.Writing.{length_of, fits, frame_of, frame_verdict, write_output}
 use Rattle.frame.proofs.Frames.{frame-length, output-is}
 use Rattle.message.specs.CuttingParts.{splice, Ready}
-use Rattle.message.proofs.Sizes.{share-range}
+use Rattle.message.proofs.Sizes.{share_range}
 use Rattle.refusal.proofs.Clauses.{three}
 use Rattle.message.proofs.cutting.put_one.Goals as goal
+use Rattle.std.specs.Prelude.{Ok}
 
 module _ (form : Form) (q : Packet) (u o : List ℕ) (p i places : ℕ) (r : Ready form q (length u) p (length o) i places) where
   size : length (frame_of form q u) ≡ frame_length long_segment (3 + length u)
@@ -29,13 +29,13 @@ module _ (form : Form) (q : Packet) (u o : List ℕ) (p i places : ℕ) (r : Rea
   -- the frame fills the part of its length
   part_filled : (part : List ℕ) → length part ≡ frame_length long_segment (3 + length u) → write_output form q u part ≡ frame_of form q u
   part_filled part e =
-      let verdict : frame_verdict form q (length u) (length part) ≡ Done =
+      let verdict : frame_verdict form q (length u) (length part) ≡ Ok tt =
       accepts form (fits form q (length u)) (length_of q (length u)) (length part)
       (record {
         good = r.good;
         fit = r.fit;
         long = r.long;
-        most = omega (arith, r.header, r.share, share-range form r.good);
+        most = omega (arith, r.header, r.share, share_range form r.good);
         room-enough = omega (arith, frame-length form q u, size, e);
       }) in
       let none : drop (length (frame_of form q u)) part ≡ [] = drop_of_length-le part {i = length (frame_of form q u)} (omega (arith, size, e)) in
@@ -50,9 +50,6 @@ module _ (form : Form) (q : Packet) (u o : List ℕ) (p i places : ℕ) (r : Rea
       let rest : drop (p + len - p) (drop p o) ≡ drop (p + length (frame_of form q u)) o =
       (let e : p + len - p ≡ length (frame_of form q u) = omega (arith, el, size) in ap (λ (x : ℕ). drop x (drop p o)) e ∙ drop-drop (length (frame_of form q u)) p o) in
       ap₂ (λ (x y : List ℕ). take p o ++ (x ++ y)) (ey ∙ part_filled part long) rest
-
-pub frame_length-len-requires : goal.frame_length-len-requires
-frame_length-len-requires c = let r = c.requires in omega (arith, r.share, share-range c.args.form r.good)
 
 pub returns : goal.returns
 returns c =

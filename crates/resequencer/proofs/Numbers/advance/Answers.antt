@@ -8,4 +8,4 @@ use Rattle.resequencer.proofs.Numbers.advance.Goals as goal
 pub returns : goal.returns
 returns c =
     ap numbers_of
-    (advanced (bare c.args.self) c.args.m _ _ _ _ _ c.passed_numbers-passed.ensures c.difference-held.ensures c.difference-clocks.ensures c.hsnr_left-hsnr.ensures refl)
+    (advanced (bare c.args.self) c.args.m _ _ _ _ _ c.passed_numbers-passed.ensures c.difference-held.ensures c.difference.ensures c.hsnr_left.ensures refl)

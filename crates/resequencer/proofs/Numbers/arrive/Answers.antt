@@ -8,14 +8,14 @@ use Rattle.refusal.proofs.Clauses.{two}
 use Rattle.resequencer.proofs.Numbers.arrive.Goals as goal
 
 pub take_arrival-requires : goal.take_arrival-requires
-take_arrival-requires c = arrive-may c.args.fits c.args.self c.args.sn.0 (sym c.check_arrive-verdict.ensures ∙ c.in-Done.is)
+take_arrival-requires c = arrive-may c.args.fits c.args.self c.args.sn.0 (sym c.check_arrive.ensures ∙ c.in-Ok.is)
 
-pub returns-in-Done : goal.returns-in-Done
-returns-in-Done c =
+pub returns-in-Ok : goal.returns-in-Ok
+returns-in-Ok c =
     two (λ p q. record { value = p; number = q })
-    (arrive-step-numbers _ _ _ _ (c.take_arrival.ensures ∙ arrive-taken _ _ _ (sym c.check_arrive-verdict.ensures ∙ c.in-Done.is)))
+    (arrive-step-numbers _ _ _ _ (c.take_arrival.ensures ∙ arrive-taken _ _ _ (sym c.check_arrive.ensures ∙ c.in-Ok.is)))
 
-pub returns-in-Refused : goal.returns-in-Refused
-returns-in-Refused c =
+pub returns-in-Err : goal.returns-in-Err
+returns-in-Err c =
     two (λ p q. record { value = p; number = q })
-    (arrive-step-numbers _ _ _ _ (c.stay.ensures ∙ arrive-left _ _ _ _ (sym c.check_arrive-verdict.ensures ∙ c.in-Refused.is)))
+    (arrive-step-numbers _ _ _ _ (c.stay.ensures ∙ arrive-left _ _ _ _ (sym c.check_arrive.ensures ∙ c.in-Err.is)))

@@ -8,14 +8,14 @@ use Rattle.refusal.proofs.Clauses.{two}
 use Rattle.resequencer.proofs.Numbers.clock_end.Goals as goal
 
 pub take_clock_end-requires : goal.take_clock_end-requires
-take_clock_end-requires c = end-may c.args.fits c.args.self c.args.sn.0 (sym c.check_clock_end-verdict.ensures ∙ c.in-Done.is)
+take_clock_end-requires c = end-may c.args.fits c.args.self c.args.sn.0 (sym c.check_clock_end.ensures ∙ c.in-Ok.is)
 
-pub returns-in-Done : goal.returns-in-Done
-returns-in-Done c =
+pub returns-in-Ok : goal.returns-in-Ok
+returns-in-Ok c =
     two (λ p q. record { value = p; number = q })
-    (end-step-numbers _ _ _ _ (c.take_clock_end.ensures ∙ end-taken _ _ _ (sym c.check_clock_end-verdict.ensures ∙ c.in-Done.is)))
+    (end-step-numbers _ _ _ _ (c.take_clock_end.ensures ∙ end-taken _ _ _ (sym c.check_clock_end.ensures ∙ c.in-Ok.is)))
 
-pub returns-in-Refused : goal.returns-in-Refused
-returns-in-Refused c =
+pub returns-in-Err : goal.returns-in-Err
+returns-in-Err c =
     two (λ p q. record { value = p; number = q })
-    (end-step-numbers _ _ _ _ (c.stay.ensures ∙ end-left _ _ _ _ (sym c.check_clock_end-verdict.ensures ∙ c.in-Refused.is)))
+    (end-step-numbers _ _ _ _ (c.stay.ensures ∙ end-left _ _ _ _ (sym c.check_clock_end.ensures ∙ c.in-Err.is)))

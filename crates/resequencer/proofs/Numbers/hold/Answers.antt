@@ -6,4 +6,4 @@ use Rattle.resequencer.proofs.Numbers.hold.Goals as goal
 
 pub returns : goal.returns
 unfolding hold
-returns c = held-step c.args.self c.args.sn.0 _ _ _ c.hsnr_with-hsnr.ensures c.with-held.ensures c.clocks_with-clocks.ensures
+returns c = held-step c.args.self c.args.sn.0 _ _ _ c.hsnr_with.ensures c.with.ensures c.clocks_with.ensures

@@ -22,14 +22,15 @@ hsnr_in_order-requires c =
 pub returns-then-window_in_order : goal.returns-then-window_in_order
 returns-then-window_in_order c =
     let s = c.args.self in
-    sym (decided-by (bare s) (search rules) _ _ _ true true c.hsnr_in_order.result true c.rotate-h.ensures c.rotate-c.ensures c.distance_to.ensures (sym c.if-in_field.true ∙ c.in_field.ensures) (sym c.if-window_in_order.true ∙ c.window_in_order.ensures) c.hsnr_in_order.ensures (sym (bare-fits s.held)) ∙ and-true c.hsnr_in_order.result)
+    sym (decided-by (bare s) (search rules) _ _ _ true true c.hsnr_in_order.result true c.rotate-h.ensures c.rotate-c.ensures c.distance_to.ensures (sym c.if-not-in_field.false ∙ c.in_field.ensures) (sym c.if-window_in_order.true ∙ c.window_in_order.ensures) c.hsnr_in_order.ensures (sym (bare-fits s.held)) ∙ and-true c.hsnr_in_order.result)
 
 pub returns-else-window_in_order : goal.returns-else-window_in_order
 returns-else-window_in_order c =
     let s = c.args.self in
-    sym (decided-by (bare s) (search rules) _ _ _ true false _ _ c.rotate-h.ensures c.rotate-c.ensures refl (sym c.if-in_field.true ∙ c.in_field.ensures) (sym c.if-window_in_order.false ∙ c.window_in_order.ensures) refl refl)
+    c.if-window_in_order.false
+    ∙ sym (decided-by (bare s) (search rules) _ _ _ true false _ _ c.rotate-h.ensures c.rotate-c.ensures refl (sym c.if-not-in_field.false ∙ c.in_field.ensures) (sym c.if-window_in_order.false ∙ c.window_in_order.ensures) refl refl)
 
-pub returns-else-in_field : goal.returns-else-in_field
-returns-else-in_field c =
+pub returns-then-not-in_field : goal.returns-then-not-in_field
+returns-then-not-in_field c =
     let s = c.args.self in
-    sym (decided-by (bare s) (search rules) _ _ _ false _ _ _ refl refl refl (sym c.if-in_field.false ∙ c.in_field.ensures) refl refl refl)
+    sym (decided-by (bare s) (search rules) _ _ _ false _ _ _ refl refl refl (sym c.if-not-in_field.true ∙ c.in_field.ensures) refl refl refl)

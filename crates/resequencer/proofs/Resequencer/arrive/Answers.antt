@@ -14,4 +14,4 @@ returns c =
     two (λ p q. record { value = p; number = q })
     (let a = c.args in
     arrive-numbers _ _ _ _
-    (arrive-told a.self _ _ a.sn.0 a.ticket _ c.numbers.ensures _ c.tickets_in_order.ensures c.arrive-step.ensures.value c.answer.ensures))
+    (arrive-told a.self _ _ a.sn.0 a.ticket _ c.numbers.ensures _ c.tickets_in_order-fits.ensures c.arrive-step.ensures.value c.answer.ensures))

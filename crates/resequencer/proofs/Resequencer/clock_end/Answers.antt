@@ -14,4 +14,4 @@ returns c =
     two (λ p q. record { value = p; number = q })
     (let a = c.args in
     end-numbers _ _ _
-    (end-told a.self _ _ a.sn.0 0 _ c.numbers.ensures _ c.tickets_in_order.ensures c.clock_end-step.ensures.value c.answer.ensures))
+    (end-told a.self _ _ a.sn.0 0 _ c.numbers.ensures _ c.tickets_in_order-fits.ensures c.clock_end-step.ensures.value c.answer.ensures))

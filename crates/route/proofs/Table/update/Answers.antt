@@ -16,7 +16,7 @@ returns-then-collect_list c =
     two (λ p q. record { value = p; number = q })
     (update-number _ _ _
     (update-done _ _ _ _ c.if-list-gt255.false c.collect_list.ensures c.if-collect_list.true
-    _ c.settle-codes.ensures _ _ c.lost_between-count.ensures))
+    _ c.settle-codes.ensures _ c.lost_between-count.ensures))
 
 pub returns-else-collect_list : goal.returns-else-collect_list
 returns-else-collect_list c =

@@ -1,8 +1,0 @@
--- `frame::clear_request_bytes` meets its contract.
--- Assumes nothing.
-use Rattle.frame_kinds.specs.Kinds.{ten_of}
-use Rattle.frame.proofs.clear_request_bytes.Goals as goal
-
-pub returns : goal.returns
-unfolding ten_of
-returns c = simp (c.ten_of.ensures, c.flag-s.ensures, c.flag-f.ensures)
