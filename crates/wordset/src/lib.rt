@@ -6,12 +6,13 @@
 // crates of the resequencer and of routes.
 #![tactic(auto)]
 
-ghost use Rattle.std.specs.Prelude.{◌≡◌, ℕ, ◌%◌, ◌^◌, ◌<◌, ◌≤◌};
+ghost use Rattle.std.specs.Prelude.{◌≡◌, ℕ, ◌%◌, ◌^◌, ◌<◌, ◌≤◌, count_ones};
+ghost use Rattle.std.specs.Int.Count.{count_trailing_zeros};
 ghost use Rattle.std.proofs.Common.{lit<};
 ghost use Rattle.wordset.specs.Sets.{member, with, union, difference, count, lowest, without_lowest, rotate, run, stretch, first_from};
 
-// A word of `WIDTH` bits, at most 64. Each call works on the word as a u64, which is the same
-// number, and cuts what it made to the width again.
+// A word of `WIDTH` bits, at most 64. Its ones and the zeros at its low end are counted in the word
+// itself. All else is made of the word as a u64, which is the same number, and cut to the width.
 pub trait Word: Copy {
     ghost WIDTH: { ℕ };
 
@@ -28,6 +29,15 @@ pub trait Word: Copy {
     // The lowest `WIDTH` bits of a u64.
     fn cut(bits: u64) -> Self
         ensures { value result ≡ bits % 2 ^ WIDTH };
+
+    // The number of ones.
+    fn ones(self) -> u8
+        ensures same { result ≡ count_ones (value self) }
+        ensures fits { value self < 2 ^ WIDTH };
+
+    // The number of zeros at the low end: the width if the word is 0.
+    fn zeros(self) -> u8
+        ensures { result ≡ count_trailing_zeros WIDTH (value self) };
 
     ghost some: { 0 < WIDTH };
 
@@ -49,6 +59,14 @@ impl Word for u16 {
         (bits % 65536) as u16
     }
 
+    fn ones(self) -> u8 {
+        u16::count_ones(self) as u8
+    }
+
+    fn zeros(self) -> u8 {
+        u16::trailing_zeros(self) as u8
+    }
+
     ghost some = { lit< tt };
 
     ghost most = { lit< tt };
@@ -67,6 +85,14 @@ impl Word for u64 {
 
     fn cut(bits: u64) -> u64 {
         bits
+    }
+
+    fn ones(self) -> u8 {
+        u64::count_ones(self) as u8
+    }
+
+    fn zeros(self) -> u8 {
+        u64::trailing_zeros(self) as u8
     }
 
     ghost some = { lit< tt };
@@ -117,19 +143,14 @@ pub fn difference<W: Word>(a: W, b: W) -> W
 pub fn count<W: Word>(set: W) -> u8
     ensures { result ≡ count W.WIDTH (W.value set) }
 {
-    set.wide().count_ones() as u8
+    set.ones()
 }
 
 // The lowest number in the set; the width of the word if it is empty.
 pub fn lowest<W: Word>(set: W) -> u8
     ensures { result ≡ lowest W.WIDTH (W.value set) }
 {
-    let word = set.wide();
-    if word == 0 {
-        W::WIDTH
-    } else {
-        word.trailing_zeros() as u8
-    }
+    set.zeros()
 }
 
 // The set without its lowest number; an empty set stays empty.
@@ -161,7 +182,7 @@ pub fn first_from<W: Word>(set: W, start: u8) -> u8
     if word == 0 {
         width
     } else {
-        (start % width + rotate(set, start).wide().trailing_zeros() as u8) % width
+        (start % width + rotate(set, start).zeros()) % width
     }
 }
 
