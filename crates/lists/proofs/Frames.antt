@@ -2,12 +2,15 @@
 -- lengths from one place on.
 -- Assumes nothing.
 use mathlib.Core.Path.{◌≡◌, refl, sym, ap, ap₂, ◌∙◌}
+use mathlib.Core.Bool.{Bool, true, false}
 use mathlib.Core.List.{List, [], ◌∷◌, ◌++◌, append_assoc}
-use Prim.Native.Nat.{ℕ, suc, ◌+◌, ◌<◌}
+use Prim.Native.Nat.{ℕ, suc, ◌+◌, ◌≤◌, ◌<◌}
 use native.Mathlib.Numerals.{add-one}
 use native.Mathlib.Omega.{arith}
-use lib.ListN.{length, take, drop, get_or, length-append, length-drop, take-append-drop}
+use lib.Dec.{eqb}
+use lib.ListN.{length, take, drop, get_or, length-append, length-drop, take-append-drop, drop_of_length-le}
 use lib.Seq.{take_at, drop_at, drop-cons, length-take-le}
+use borrow.Author.Tests.{eq-eqb, ne_eqb, eqb-true, eqb-false}
 use Rattle.lists.specs.Frames.{bytes_in, lengths_of, parts_of, sum}
 
 pub parts-back : (fs : List (List ℕ)) → parts_of (lengths_of fs) (bytes_in fs) ≡ fs
@@ -54,3 +57,14 @@ lengths-append (f ∷ fs) gs = ap (λ (x : List ℕ). length f ∷ x) (lengths-a
 
 pub sum-here : (ls : List ℕ) (i : ℕ) → i < length ls → sum (drop i ls) ≡ get_or ls i 0 + sum (drop (i + 1) ls)
 sum-here ls i h = rw (add-one, drop-cons ls i 0 h)
+
+pub sum-end : (ls : List ℕ) (i : ℕ) → length ls ≤ i → sum (drop i ls) ≡ 0
+sum-end ls i h = ap sum (drop_of_length-le ls {i = i} h)
+
+-- what is left of n when s is taken from it
+pub left-none : (rest s n : ℕ) → rest + s ≡ n → eqb rest 0 ≡ eqb s n
+left-none rest s n e = go (eqb rest 0) refl
+  where
+    go : (b : Bool) → eqb rest 0 ≡ b → b ≡ eqb s n
+    go true t = sym (eq-eqb s n (omega (arith, eqb-true rest 0 t)))
+    go false t = let z : rest ≡ 0 → ⊥ = eqb-false rest 0 t in sym (ne_eqb s n (λ q. z (omega arith)))
