@@ -24,7 +24,9 @@ impl fmt::Display for Answer {
     }
 }
 
-// Makes a call with the arguments of its line.
+// Makes a call with the arguments of its line. Not inlined: printing has no need of the stack for
+// it.
+#[inline(never)]
 pub fn make(call: Call, arguments: &mut Arguments) -> Answer {
     let Arguments { numbers, a, b, c } = arguments;
     let (n, a, b, c) = (*numbers, a.bytes_mut(), b.bytes_mut(), c.bytes_mut());

@@ -38,6 +38,8 @@ impl Ending {
 // Writes an ending's mark to descriptor 3, if that is a pipe (main.rt). It is opened anew by its
 // name, which would write over a file: so nothing else is opened. Each program has its own: a public
 // function of a library promises its whole answer, and nothing can be promised of what a file takes.
+// Not inlined: no line has need of the stack for it.
+#[inline(never)]
 pub fn mark(rt: &HostRuntime, ending: Ending) {
     if let Ok(found) = fs::metadata(rt, "/dev/fd/3")
         && found.file_type().is_fifo()
@@ -91,6 +93,8 @@ impl<'a> Printer<'a> {
         self.bytes(b"\n");
     }
 
+    // Not inlined, as `list`: its room for digits is needed here alone.
+    #[inline(never)]
     pub fn answer(&mut self, answer: Answer) {
         if !self.has_failed() {
             let written = self.rt.print(answer);
@@ -98,7 +102,9 @@ impl<'a> Printer<'a> {
         }
     }
 
-    // A blank and a list, by one call of the system.
+    // A blank and a list, by one call of the system. Not inlined: a line that prints no list has no
+    // need of the stack for one.
+    #[inline(never)]
     pub fn list(&mut self, list: &[u8])
         requires { length list.now ≤ 8192 }
     {
@@ -114,7 +120,8 @@ impl<'a> Printer<'a> {
         self.bytes(&out[..1 + 2 * list.len()]);
     }
 
-    // Prints what is wrong with a line, and notes that it could not be read.
+    // Prints what is wrong with a line, and notes that it could not be read. Not inlined, as `answer`.
+    #[inline(never)]
     pub fn complain(&mut self, line: u64, fault: Fault) {
         if !self.has_failed() {
             self.ending = Ending::Unread;
