@@ -1,15 +1,16 @@
 -- Facts about the segments and the largest packets of the forms, proved form by form.
 -- Assumes nothing.
 use mathlib.Core.Path.{◌≡◌, refl, sym, ap, ◌∙◌}
-use mathlib.Core.Bool.{Bool, true, false, cond, ◌&&◌, true≢false}
-use Prim.Native.Nat.{ℕ, ◌≤◌}
+use mathlib.Core.Bool.{Bool, true, false, cond, ◌&&◌, ◌||◌, true≢false}
+use Prim.Native.Nat.{ℕ, ◌%◌, ◌≤◌}
 use native.Mathlib.Omega.{arith}
 use lib.Dec.{leb, eqb}
 use borrow.Author.Tests.{leb-true, leb-false, le-leb, lt-leb, eq-eqb, ne_eqb, eqb-true, eqb-false}
 use Rattle.refusal.proofs.Checks.{both_true}
 use Rattle.frame_form.specs.declared.Form.{Form}
 use Rattle.frame_form.specs.declared.Form.TheVariants.{ShortUplink, LongUplink, LongDownlink}
-use Rattle.frame_form.specs.Forms.{long_segment, seg_of, most_of, form_valid, is_long, form_at, form_number, form_code}
+use Rattle.frame_form.specs.Forms.{long_segment, seg_of, most_of, form_valid, is_long, is_uplink, form_at, form_number, form_code}
+use Rattle.frame_form.specs.Segments.{whole_segments}
 
 -- every segment holds a header
 pub segment-seven : (form : Form) → 7 ≤ seg_of form
@@ -64,6 +65,17 @@ long-at n more = go (eqb n 17) refl
 
 -- ---- by the number
 
+pub uplink-at : (n : ℕ) → is_uplink (form_at n) ≡ (eqb n 0 || eqb n 17)
+uplink-at n = go (eqb n 0) (eqb n 17) refl refl
+  where
+    go : (a b : Bool) → eqb n 0 ≡ a → eqb n 17 ≡ b → is_uplink (form_at n) ≡ (a || b)
+    go true b e f = ap is_uplink (at-short n (eqb-true n 0 e))
+    go false true e f = ap is_uplink (at_long n (eqb-false n 0 e) (eqb-true n 17 f))
+    go false false e f = ap is_uplink (at-downlink n (eqb-false n 0 e) (eqb-false n 17 f))
+
+pub segment-short : (n : ℕ) → n ≡ 0 → seg_of (form_at n) ≡ 7
+segment-short n e = ap seg_of (at-short n e)
+
 pub segment-long : (n : ℕ) → (n ≡ 0 → ⊥) → seg_of (form_at n) ≡ long_segment
 segment-long n z = long-segment (form_at n) (long-at n (omega (arith, z)))
 
@@ -96,3 +108,21 @@ code-back (LongDownlink n) e =
 pub code-none : (f : Form) → form_valid f ≡ false → form_valid (form_at (form_code f)) ≡ false
 unfolding form_code
 code-none f e = ap (λ (b : Bool). form_valid (form_at (cond b (form_number f) 255))) e ∙ valid-at 255
+
+-- whole segments of a size that is known, at least one byte
+pub whole_of : (n seg len : ℕ) → seg_of (form_at n) ≡ seg → (len ≡ 0 → ⊥) → eqb (len % seg) 0 ≡ whole_segments (seg_of (form_at n)) len
+unfolding whole_segments
+whole_of n seg len e z =
+    sym (ap (λ (s : ℕ). leb 1 len && eqb (len % s) 0) e ∙ ap (λ (b : Bool). b && eqb (len % seg) 0) (le-leb 1 len (omega (arith, z))))
+
+pub whole-empty : (seg len : ℕ) → len ≡ 0 → whole_segments seg len ≡ false
+unfolding whole_segments
+whole-empty seg len e = ap (λ (b : Bool). b && eqb (len % seg) 0) (lt-leb 1 len (omega (arith, e)))
+
+pub code-valid : (f : Form) → form_valid f ≡ true → form_code f ≡ form_number f
+unfolding form_code
+code-valid f e = ap (λ (b : Bool). cond b (form_number f) 255) e
+
+pub code_other : (f : Form) → form_valid f ≡ false → form_code f ≡ 255
+unfolding form_code
+code_other f e = ap (λ (b : Bool). cond b (form_number f) 255) e

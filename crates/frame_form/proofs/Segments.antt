@@ -6,8 +6,8 @@ use Prim.Native.Nat.{ℕ, zero, suc, ◌+◌, ◌-◌, ◌*◌, ◌/◌, ◌%◌
 use native.Mathlib.Nat.{mod-lt, mod_self, mod-eq_of_lt, mod-add-mod, div-add-mod', mul-add-mod_self_right, mul-mod_left, zero-mul, suc-mul}
 use native.Mathlib.Decide.{dec_lt}
 use native.Mathlib.Omega.{arith}
-use lib.Dec.{leb, eqb}
-use borrow.Author.Tests.{leb-true, eqb-true, eqb-false}
+use lib.Dec.{leb, ltb, eqb}
+use borrow.Author.Tests.{leb-true, ltb-true, ltb-false, eq-eqb, ne_eqb, eqb-true, eqb-false}
 use Rattle.refusal.proofs.Checks.{both_true}
 use Rattle.frame_form.specs.Segments.{padding, last_used, frame_length, whole_segments}
 
@@ -31,6 +31,17 @@ padding-none seg n some e =
 pub padding-some : (seg n : ℕ) → 1 ≤ seg → 1 ≤ n % seg → padding seg n ≡ seg - n % seg
 unfolding padding
 padding-some seg n some e = mod-eq_of_lt (omega (arith, mod-lt n some))
+
+-- the padding is 0 exactly for whole segments
+pub padding-zero : (seg n : ℕ) → 1 ≤ seg → eqb (padding seg n) 0 ≡ eqb (n % seg) 0
+padding-zero seg n some = go (eqb (n % seg) 0) refl
+  where
+    go : (b : Bool) → eqb (n % seg) 0 ≡ b → eqb (padding seg n) 0 ≡ b
+    go true e = eq-eqb (padding seg n) 0 (padding-none seg n some (eqb-true (n % seg) 0 e))
+    go false e =
+        let ne : n % seg ≡ 0 → ⊥ = eqb-false (n % seg) 0 e in
+        let pos : 1 ≤ n % seg = omega (arith, ne) in
+        ne_eqb (padding seg n) 0 (λ z. omega (arith, z, padding-some seg n some pos, mod-lt n some))
 
 -- a frame has the length of q segments, for some q
 pub segments : (seg n : ℕ) → 1 ≤ seg → (q : ℕ) × (frame_length seg n ≡ q * seg)
@@ -76,6 +87,14 @@ frame-end seg len n some m h =
     let split : len ≡ q * seg + x = omega (arith, d) in
     let whole : x % seg ≡ 0 = sym (mul-add-mod_self_right q seg x) ∙ ap (λ (k : ℕ). k % seg) (sym split) ∙ m in
     sym (whole-next seg x n some whole (omega (arith, d)) (omega (arith, d, mod-lt (len - n) some)))
+
+-- and no other whole segments have it
+pub whole_by : (seg len n : ℕ) → 1 ≤ seg → len % seg ≡ 0 → n ≤ len → ltb (len - n) seg ≡ eqb len (frame_length seg n)
+whole_by seg len n some m h = go (ltb (len - n) seg) refl
+  where
+    go : (b : Bool) → ltb (len - n) seg ≡ b → b ≡ eqb len (frame_length seg n)
+    go true e = sym (eq-eqb len (frame_length seg n) (whole-next seg len n some m h (ltb-true (len - n) seg e)))
+    go false e = sym (ne_eqb len (frame_length seg n) (λ w. omega (arith, w, ltb-false (len - n) seg e, padding-below seg n some)))
 
 -- a frame that has bytes has at least one segment
 pub frame-some : (seg n : ℕ) → 1 ≤ seg → 1 ≤ frame_length seg n → seg ≤ frame_length seg n

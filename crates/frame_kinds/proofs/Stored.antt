@@ -11,7 +11,7 @@ use borrow.Author.Tests.{leb-true, eq-eqb, not-true}
 use Rattle.refusal.proofs.Checks.{both_true}
 use Rattle.frame_fields.proofs.Tags.{apart}
 use Rattle.frame_kinds.specs.declared.Kind.{Kind}
-use Rattle.frame_kinds.specs.declared.Found.TheVariants.{Known}
+use Rattle.frame_kinds.specs.declared.Found.TheVariants.{Known, Route}
 use Rattle.frame_kinds.specs.Kinds.{lead_of, size_of, kinds, kind_number, route_number, first_numbered, kind_at, value_count, ten_of}
 use Rattle.frame_kinds.proofs.Every.{Named, here, there, in_table, for-all}
 
@@ -24,6 +24,10 @@ numbered ks k (there {j = j} {ks = rest} d n) =
 pub number-back : (k : Kind) → kind_at (kind_number k) ≡ Known k
 unfolding kind_at
 number-back k = numbered kinds k (in_table k)
+
+pub route-back : kind_at route_number ≡ Route
+unfolding kind_at
+route-back = refl
 
 -- no kind has the number of ROUTE
 pub not-route : (k : Kind) → eqb (kind_number k) route_number ≡ false

@@ -35,6 +35,7 @@ use Rattle.frame_reader.specs.Reading.{found_in, fault_of, length_in, header_len
 use Rattle.frame_reader.specs.Parts.{layout_for, row_by, length_by_strings, length_for, head_by, byte_for, places_by, found_number, tail_position, strings_of, Named, Headed, look_answer, look_bytes}
 use Rattle.frame_reader.proofs.Zeros.{count-le, all_after, some_after}
 use Rattle.frame_reader.proofs.Rows.{Readable, readable}
+use Rattle.frame_reader.proofs.Founds.{strings-are}
 use Rattle.std.specs.Prelude.{Ok}
 
 -- ---- the answers, from the checks
@@ -475,12 +476,6 @@ module _ (form : Form) (found : Found) (frame : List ℕ) (head : Head) (s : Hea
 
   pub clean-padding : all_zero (drop head.len frame) ≡ false → read_checks form frame ≡ refused_at FormatError (tail_fault (seg_of form) head.len frame)
   clean-padding z = seen-tail form found frame head s clean.0 clean.1 (omega (arith, clean.2, some_after head.len frame z))
-
--- what was found says whether strings follow
-strings-are : (form : Form) (f : Found) → strings_of f ≡ (layout_for form f).strings
-strings-are form Route = refl
-strings-are form Unknown = refl
-strings-are form (Known k) = refl
 
 -- ---- what the calls do then
 

@@ -2,4 +2,5 @@
 
 pub mod Zeros
 pub mod Rows
+pub mod Founds
 pub mod Cases

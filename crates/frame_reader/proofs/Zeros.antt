@@ -11,7 +11,7 @@ use lib.Count.{count_trailing_zeros, trailing_le, under}
 use lib.Dec.{eqb}
 use lib.ListN.{length, take, drop, get_or, take-append-drop, length-drop, replicate-append-replicate}
 use lib.Pow.{pow_pos, shr_le, low, field, mod-mod-pow, mod-pow-add}
-use lib.Seq.{drop-drop, take_all}
+use lib.Seq.{drop-cons, drop-drop, take_all}
 use borrow.Author.Tests.{eq-eqb, ne_eqb}
 use Rattle.refusal.proofs.Checks.{both_true}
 use Rattle.frame_fields.specs.Rows.{total, pack_after, InRange, eights, number_in, AreBytes}
@@ -21,6 +21,16 @@ use Rattle.frame_form.specs.Frames.{all_zero}
 use Rattle.frame_reader.specs.Faults.{zeros_first}
 
 -- ---- one by one
+
+-- a zero byte is counted, and the count goes on
+pub count-step : (i : ℕ) (s : List ℕ) → i < length s → get_or s i 0 ≡ 0 → i + zeros_first (drop i s) ≡ i + 1 + zeros_first (drop (i + 1) s)
+count-step i s h e =
+    let one : zeros_first (drop i s) ≡ suc (zeros_first (drop (i + 1) s)) = rw (add-one, drop-cons s i 0 h, e) in
+    omega (arith, one)
+
+-- a byte that is not zero ends it
+pub count-stop : (i : ℕ) (s : List ℕ) → i < length s → eqb (get_or s i 0) 0 ≡ false → zeros_first (drop i s) ≡ 0
+count-stop i s h e = rw (drop-cons s i 0 h, e)
 
 -- the count is the length exactly if all bytes are 0
 pub count-all : (s : List ℕ) → all_zero s ≡ true → zeros_first s ≡ length s

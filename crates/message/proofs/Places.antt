@@ -18,7 +18,7 @@ none-length [] = refl
 none-length (x ∷ xs) = sym (eqb-suc-zero (length xs))
 
 -- what is left of n when s is taken from it
-left-none : (rest s n : ℕ) → rest + s ≡ n → eqb rest 0 ≡ eqb s n
+pub left-none : (rest s n : ℕ) → rest + s ≡ n → eqb rest 0 ≡ eqb s n
 left-none rest s n e = grind arith
 
 -- no length comes from place j on

@@ -15,7 +15,7 @@ pub nothing_run : (r : Replay) (bytes : List ℕ) → r ≡ feed_next r (take 0 
 unfolding feed_next
 nothing_run r bytes = refl
 
-more-run : (r₀ : Replay) (bytes : List ℕ) (at to : ℕ) {r r' : Replay} → at < to → r ≡ feed_next r₀ (take at bytes)
+pub more-run : (r₀ : Replay) (bytes : List ℕ) (at to : ℕ) {r r' : Replay} → at < to → r ≡ feed_next r₀ (take at bytes)
     → r' ≡ feed_next r (take (to - at) (drop at bytes)) → r' ≡ feed_next r₀ (take to bytes)
 more-run r₀ bytes at to h e k =
     let z : at + (to - at) ≡ to = omega arith in

@@ -10,7 +10,7 @@ use lib.Dec.{eqb}
 use lib.ListN.{length, get_or, take, drop, length-drop}
 use lib.Seq.{take_all, length-take-le}
 use borrow.Author.Tests.{le-leb, lt-leb, le-ltb}
-use Rattle.refusal.specs.declared.Refusal.TheVariants.{OutOfRange, NotInOrder}
+use Rattle.refusal.specs.declared.Refusal.TheVariants.{OutOfRange, NotInOrder, Malformed}
 use Rattle.refusal.specs.Numbers.{check}
 use Rattle.sequence.specs.Numbers.{in_field}
 use Rattle.resequencer.specs.declared.Resequencer.{Resequencer}
@@ -164,6 +164,10 @@ arrival-answer s sn ticket e k h = h ∙ ap (λ x. arrive_of s x ticket) k ∙ a
 pub end-answer : (s : Resequencer) {a : Answer} {l : Option Line} {n : ℕ} (sn : ℕ) → l ≡ Some (ClockEnd sn) → n ≡ narrowed sn → a ≡ clock_end_of s n → a ≡ line_answer s l
 unfolding line_answer
 end-answer s sn e k h = h ∙ ap (clock_end_of s) k ∙ end-narrowed s sn ∙ sym (ap (line_answer s) e)
+
+pub malformed-answer : (s : Resequencer) (l : Option Line) → l ≡ None → plain (Err Malformed) s ≡ line_answer s l
+unfolding line_answer
+malformed-answer s l e = sym (ap (line_answer s) e)
 
 -- the next state and the report, for the text that was read
 pub line-next : (s : Resequencer) (text : List ℕ) {l : Option Line} {a : Answer} → l ≡ line_in text → a ≡ line_answer s l → a.next ≡ line_next s text

@@ -60,7 +60,7 @@ digits-at : (t : List ℕ) (i : ℕ) → i < length t → all_digits (drop i t) 
 unfolding all_digits
 digits-at t i h = rw (add-one, drop-cons t i 0)
 
-value-at : (t : List ℕ) (v i : ℕ) → i < length t → value_from v (drop i t) ≡ value_from (v * 10 + (get_or t i 0 - 48)) (drop (i + 1) t)
+pub value-at : (t : List ℕ) (v i : ℕ) → i < length t → value_from v (drop i t) ≡ value_from (v * 10 + (get_or t i 0 - 48)) (drop (i + 1) t)
 unfolding value_from
 value-at t v i h = rw (add-one, drop-cons t i 0)
 

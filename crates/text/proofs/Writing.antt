@@ -2,7 +2,7 @@
 -- Assumes nothing.
 use mathlib.Core.Path.{◌≡◌, refl, sym, ap, ◌∙◌}
 use mathlib.Core.List.{List, [], ◌∷◌, ◌++◌}
-use Prim.Native.Nat.{ℕ, suc, ◌+◌, ◌≤◌}
+use Prim.Native.Nat.{ℕ, suc, ◌+◌, ◌≤◌, ◌<◌}
 use native.Mathlib.Nat.{add-zero}
 use native.Mathlib.Omega.{arith}
 use lib.ListN.{length, set, take, drop, length-set, length-append}
@@ -73,9 +73,12 @@ word-written o out text from room e = record {
 
 -- ---- calls that test the room
 
--- there is room and the text was written
+-- the two ways out of a call: there is room and the text was written; there is none and nothing was
 pub puts : {o o' : List ℕ} {from r most : ℕ} {text : List ℕ} → from + most ≤ length o → Wrote o o' from r most text → Puts o o' from r most text
 puts room w = record { written = λ _. w; no_room = λ h. absurd (omega arith) }
+
+pub puts-not : (o : List ℕ) (from most : ℕ) (text : List ℕ) → length o < from + most → Puts o o from from most text
+puts-not o from most text h = record { written = λ k. absurd (omega arith); no_room = λ _. (refl, refl) }
 
 -- where there is room for two texts, there is room for the second after the first
 pub room_after : {o o₁ : List ℕ} {from r₁ m₁ : ℕ} {xs : List ℕ} (m₂ : ℕ) → Wrote o o₁ from r₁ m₁ xs → from + (m₁ + m₂) ≤ length o → r₁ + m₂ ≤ length o₁

@@ -1,3 +1,5 @@
+-- Good order of the receiving end.
+pub mod Order
 -- The proofs of the claims.
 pub mod Ends
 pub mod History
