@@ -82,7 +82,8 @@ impl Counter for LinkNumber {
     }
 
     fn get(self) -> u8 {
-        self.0
+        let LinkNumber(number) = self;
+        number
     }
 
     ghost kept = { λ n. refl };
@@ -106,7 +107,8 @@ impl Counter for PacketNumber {
     }
 
     fn get(self) -> u8 {
-        self.0
+        let PacketNumber(number) = self;
+        number
     }
 
     ghost kept = { λ n. refl };
