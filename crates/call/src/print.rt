@@ -120,7 +120,8 @@ impl<'a> Printer<'a> {
         self.bytes(&out[..1 + 2 * list.len()]);
     }
 
-    // Prints what is wrong with a line, and notes that it could not be read. Not inlined, as `answer`.
+    // Prints what is wrong with a line, and notes that it could not be read. Not inlined, as
+    // `answer`.
     #[inline(never)]
     pub fn complain(&mut self, line: u64, fault: Fault) {
         if !self.has_failed() {
